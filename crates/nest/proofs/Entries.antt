@@ -1,0 +1,34 @@
+-- Laws of the refusals behind 13, for the entries that have them.
+-- Assumes nothing.
+use mathlib.Core.Path.{_≡_, refl}
+use Prim.Native.Nat.{ℕ, zero, suc, _≤_, _<_}
+use borrow.Author.Tests.{le-leb, lt-leb, eq-eqb}
+use mathlib.Core.Bool.{true, false}
+use lib.Dec.{leb, eqb}
+use lib.ListN.{length}
+use Rattle.nest.specs.declared.LoopNest.{LoopNest}
+use Rattle.nest.specs.Points.{pointsOf}
+use Rattle.nest.specs.Refusals.{refusal, iterations, orElse, shortBuffer}
+
+-- the first answer stands where it is a refusal, and else the second
+pub orElse-first : (a b : ℕ) → (a ≡ 0 → ⊥) → orElse a b ≡ a
+unfolding orElse
+orElse-first zero b h = absurd (h refl)
+orElse-first (suc a) b h = refl
+
+pub orElse-second : (a b : ℕ) → a ≡ 0 → orElse a b ≡ b
+unfolding orElse
+orElse-second a b e = rw e refl
+
+pub long-enough : (needed room : ℕ) → needed ≤ room → shortBuffer needed room ≡ 0
+unfolding shortBuffer
+long-enough needed room h = rw (le-leb needed room h, shortBuffer) refl
+
+pub too-short : (needed room : ℕ) → room < needed → shortBuffer needed room ≡ 14
+unfolding shortBuffer
+too-short needed room h = rw (lt-leb needed room h, shortBuffer) refl
+
+-- the number of iterations of an accepted nest
+pub iterations-are : (s : LoopNest) → refusal s ≡ 0 → iterations s ≡ length (pointsOf s)
+unfolding iterations
+iterations-are s ok = rw (eq-eqb (refusal s) 0 ok, iterations) refl

@@ -1,0 +1,13 @@
+-- The laws that other proofs cite: the theorems about refusals, index points and sources first, then what the functions' proofs share.
+pub mod Words
+pub mod Refused
+pub mod Accepted
+pub mod Order
+pub mod Sources
+pub mod Ranks
+pub mod Padding
+pub mod Entries
+pub mod FirstMet
+pub mod Conditions
+pub mod Counted
+pub mod Vectors

@@ -1,0 +1,508 @@
+// A loop nest held as numbers (document 01: sheet), its spans, its refusals 2 to 13, and its index points.
+ghost use mathlib.Core.Path.{_≡_};
+ghost use mathlib.Core.Bool.{true, false, _||_};
+ghost use Prim.Native.Nat.{ℕ, _+_, _*_, _<_, _≤_};
+ghost use lib.IntN.{ℤ, pos, negℤ, natAbs, _-ℤ_};
+ghost use lib.Signed.{ltZ, _≤ℤ_};
+ghost use lib.ListN.{length, getD, set};
+ghost use Rattle.integers.specs.Lists.{any, repeats, tab};
+ghost use Rattle.integers.specs.Vector.{dots, eqZ, eqV};
+ghost use Rattle.nest.specs.Nest.{emptyNest, withComponent, part, toℕ, depthOf, countOf, limitAt, limitsOf, timeOf, dependenceAt, dependencesOf, weightsOf, maxDepth, maxDependences, maxCube, maxLimit, maxIterations, maxComponent, maxBoundary, maxWeight};
+ghost use Rattle.nest.specs.Points.{extent, pointCount};
+ghost use Rattle.nest.specs.Refusals.{outside, crossed, outOfSpan, backward, refusal, firstMet, headerOrder, limitOrder, vectorOrder, weightOrder, iterations};
+
+// no such depth: n out of span
+pub const BAD_DEPTH: u8 = 2;
+// offset count: m out of span
+pub const BAD_COUNT: u8 = 3;
+// rack too large: c out of span
+pub const BAD_CUBE: u8 = 4;
+// crossed limits: a limit out of span, or lower above upper
+pub const BAD_LIMITS: u8 = 5;
+// sheet too big: more than MAX_ITERATIONS index points
+pub const TOO_MANY_POINTS: u8 = 6;
+// clock span: a component of the time vector out of span
+pub const BAD_TIME: u8 = 7;
+// offset span: a component of a dependence out of span
+pub const BAD_DEPENDENCE: u8 = 8;
+// backward offset: a dependence is zero, or its first non-zero component is negative
+pub const BACKWARD_DEPENDENCE: u8 = 9;
+// doubled offset: two dependences equal
+pub const EQUAL_DEPENDENCES: u8 = 10;
+// against the clock: P·d below 1 for a dependence
+pub const AGAINST_TIME: u8 = 11;
+// dead clock: P·P is 0
+pub const ZERO_TIME: u8 = 12;
+// weight span: the boundary value or a weight out of span
+pub const BAD_WEIGHT: u8 = 13;
+
+// A loop nest. Every field may hold any number; `check` says whether the nest is accepted. Of each array the first `depth` or `count` places are part
+// of the nest, and the others are ignored.
+pub struct LoopNest {
+    // document 01: depth n
+    pub depth: i64,
+    // number of dependences m (document 01: offsets)
+    pub count: i64,
+    // dimension c of the hypercube; there are 2^c processors
+    pub cube: i64,
+    // the limits of each loop, outermost first
+    pub lower: [i64; LoopNest::MAX_DEPTH],
+    pub upper: [i64; LoopNest::MAX_DEPTH],
+    // the time vector P (document 01: clock)
+    pub time: [i64; LoopNest::MAX_DEPTH],
+    // component k of dependence i is at place i * MAX_DEPTH + k
+    pub dependences: [i64; LoopNest::MAX_DEPTH * LoopNest::MAX_DEPENDENCES],
+    // what a source outside the index points reads as (document 01: edge value)
+    pub boundary: i64,
+    // one for each dependence
+    pub weights: [i64; LoopNest::MAX_DEPENDENCES],
+}
+
+impl LoopNest {
+    pub const MAX_DEPTH: usize = 3;
+
+    pub const MAX_DEPENDENCES: usize = 8;
+
+    pub const MAX_CUBE: i64 = 6;
+
+    pub const MAX_LIMIT: i64 = 1000;
+
+    pub const MAX_ITERATIONS: u64 = 4096;
+
+    pub const MAX_COMPONENT: i64 = 16;
+
+    pub const MAX_BOUNDARY: i64 = 65535;
+
+    pub const MAX_WEIGHT: i64 = 255;
+
+    // A nest with 0 in every place. It also says that the spans that the definitions name are the constants above.
+    pub fn empty() -> LoopNest
+        ensures { λ r. ⌜ r ≡ emptyNest ⌝ }
+        ensures shape_spans { λ r. do
+          depth ← ⟦LoopNest::MAX_DEPTH⟧ .entry
+          dependences ← ⟦LoopNest::MAX_DEPENDENCES⟧ .entry
+          cube ← ⟦LoopNest::MAX_CUBE⟧ .entry
+          iterations ← ⟦LoopNest::MAX_ITERATIONS⟧ .entry
+          ⌜ (depth ≡ maxDepth) × (dependences ≡ maxDependences) × (cube ≡ pos maxCube) × (iterations ≡ maxIterations) ⌝ }
+        ensures number_spans { λ r. do
+          limit ← ⟦LoopNest::MAX_LIMIT⟧ .entry
+          component ← ⟦LoopNest::MAX_COMPONENT⟧ .entry
+          boundary ← ⟦LoopNest::MAX_BOUNDARY⟧ .entry
+          weight ← ⟦LoopNest::MAX_WEIGHT⟧ .entry
+          ⌜ (limit ≡ pos maxLimit) × (component ≡ pos maxComponent) × (boundary ≡ pos maxBoundary) × (weight ≡ pos maxWeight) ⌝ }
+    {
+        LoopNest {
+            depth: 0,
+            count: 0,
+            cube: 0,
+            lower: [0; LoopNest::MAX_DEPTH],
+            upper: [0; LoopNest::MAX_DEPTH],
+            time: [0; LoopNest::MAX_DEPTH],
+            dependences: [0; LoopNest::MAX_DEPTH * LoopNest::MAX_DEPENDENCES],
+            boundary: 0,
+            weights: [0; LoopNest::MAX_DEPENDENCES],
+        }
+    }
+
+    // The same nest with depth n, m dependences and cube dimension c.
+    pub fn with_shape(self, depth: i64, count: i64, cube: i64) -> LoopNest
+        ensures { λ r. ⌜ r ≡ record { depth = depth; count = count; cube = cube; lower = self .lower; upper = self .upper; time = self .time; dependences = self .dependences; boundary = self .boundary; weights = self .weights } ⌝ }
+    {
+        let mut s = self;
+        s.depth = depth;
+        s.count = count;
+        s.cube = cube;
+        s
+    }
+
+    // The same nest with other limits of loop k, counted from 0 at the outermost; unchanged where there is no such place.
+    pub fn with_limits(self, k: usize, lower: i64, upper: i64) -> LoopNest
+        ensures { λ r. ⌜ r ≡ record { depth = self .depth; count = self .count; cube = self .cube; lower = set (self .lower) k lower; upper = set (self .upper) k upper; time = self .time; dependences = self .dependences; boundary = self .boundary; weights = self .weights } ⌝ }
+    {
+        let mut s = self;
+        if k < LoopNest::MAX_DEPTH {
+            s.lower[k] = lower;
+            s.upper[k] = upper;
+        }
+        s
+    }
+
+    // The same nest with another component k of the time vector; unchanged where there is no such place.
+    pub fn with_time(self, k: usize, component: i64) -> LoopNest
+        ensures { λ r. ⌜ r ≡ record { depth = self .depth; count = self .count; cube = self .cube; lower = self .lower; upper = self .upper; time = set (self .time) k component; dependences = self .dependences; boundary = self .boundary; weights = self .weights } ⌝ }
+    {
+        let mut s = self;
+        if k < LoopNest::MAX_DEPTH {
+            s.time[k] = component;
+        }
+        s
+    }
+
+    // The same nest with another component k of dependence i; unchanged where there is no such place.
+    pub fn with_dependence(self, i: usize, k: usize, component: i64) -> LoopNest
+        ensures { λ r. ⌜ r ≡ record { depth = self .depth; count = self .count; cube = self .cube; lower = self .lower; upper = self .upper; time = self .time; dependences = withComponent (self .dependences) i k component; boundary = self .boundary; weights = self .weights } ⌝ }
+    {
+        let mut s = self;
+        if i < LoopNest::MAX_DEPENDENCES && k < LoopNest::MAX_DEPTH {
+            s.dependences[i * LoopNest::MAX_DEPTH + k] = component;
+        }
+        s
+    }
+
+    // The same nest with another boundary value.
+    pub fn with_boundary(self, boundary: i64) -> LoopNest
+        ensures { λ r. ⌜ r ≡ record { depth = self .depth; count = self .count; cube = self .cube; lower = self .lower; upper = self .upper; time = self .time; dependences = self .dependences; boundary = boundary; weights = self .weights } ⌝ }
+    {
+        let mut s = self;
+        s.boundary = boundary;
+        s
+    }
+
+    // The same nest with another weight of dependence i; unchanged where there is no such place.
+    pub fn with_weight(self, i: usize, weight: i64) -> LoopNest
+        ensures { λ r. ⌜ r ≡ record { depth = self .depth; count = self .count; cube = self .cube; lower = self .lower; upper = self .upper; time = self .time; dependences = self .dependences; boundary = self .boundary; weights = set (self .weights) i weight } ⌝ }
+    {
+        let mut s = self;
+        if i < LoopNest::MAX_DEPENDENCES {
+            s.weights[i] = weight;
+        }
+        s
+    }
+}
+
+// A number that is not negative as a size; 0 for a negative one.
+pub fn to_size(x: i64) -> usize
+    ensures { λ r. ⌜ r ≡ toℕ x ⌝ }
+{
+    if x < 0 { 0 } else { x as usize }
+}
+
+// Whether x is not from low to high.
+pub fn is_outside(low: i64, high: i64, x: i64) -> bool
+    ensures { λ r. ⌜ r ≡ outside low high x ⌝ }
+{
+    if x < low {
+        return true;
+    }
+    high < x
+}
+
+// Whether a loop's limits are crossed or out of span.
+fn is_crossed(lower: i64, upper: i64) -> bool
+    ensures { λ r. ⌜ r ≡ crossed (record { lower = lower; upper = upper }) ⌝ }
+{
+    if is_outside(-LoopNest::MAX_LIMIT, LoopNest::MAX_LIMIT, lower) {
+        return true;
+    }
+    if is_outside(-LoopNest::MAX_LIMIT, LoopNest::MAX_LIMIT, upper) {
+        return true;
+    }
+    upper < lower
+}
+
+// Whether one of n places of an array, from place `from` on, is not from low to high.
+fn any_outside(xs: &[i64], from: usize, n: usize, low: i64, high: i64) -> bool
+    requires { ⌜ from + n ≤ length (now xs) ⌝ }
+    ensures { λ r. ⌜ r ≡ any (outside low high) (part (now (xs .entry)) from n) ⌝ }
+{
+    for k in 0..n {
+        if is_outside(low, high, xs[from + k]) {
+            return true;
+        }
+    }
+    false
+}
+
+// Whether the limits of one of the n outermost loops are crossed or out of span.
+fn any_crossed(
+    lower: [i64; LoopNest::MAX_DEPTH],
+    upper: [i64; LoopNest::MAX_DEPTH],
+    n: usize,
+) -> bool
+    requires { ⌜ n ≤ maxDepth ⌝ }
+    ensures { λ r. ⌜ r ≡ any crossed (tab (limitAt lower upper) n) ⌝ }
+{
+    for k in 0..n {
+        if is_crossed(lower[k], upper[k]) {
+            return true;
+        }
+    }
+    false
+}
+
+// How far an index is above the lowest of its loop.
+pub fn distance(lower: i64, index: i64) -> u64
+    requires { ⌜ (natAbs lower ≤ maxLimit) × (natAbs index ≤ maxLimit) × (lower ≤ℤ index) ⌝ }
+    ensures { λ r. ⌜ r ≡ toℕ (index -ℤ lower) ⌝ }
+{
+    (index - lower) as u64
+}
+
+// How many indices a loop has whose limits are not crossed.
+fn extent_of(lower: i64, upper: i64) -> u64
+    requires { ⌜ crossed (record { lower = lower; upper = upper }) ≡ false ⌝ }
+    ensures { λ r. ⌜ r ≡ extent (record { lower = lower; upper = upper }) ⌝ }
+{
+    (upper - lower) as u64 + 1
+}
+
+// The number of index points of the n outermost loops.
+fn point_count(
+    lower: [i64; LoopNest::MAX_DEPTH],
+    upper: [i64; LoopNest::MAX_DEPTH],
+    n: usize,
+) -> u64
+    requires { ⌜ (n ≤ maxDepth) × (any crossed (tab (limitAt lower upper) n) ≡ false) ⌝ }
+    ensures { λ r. ⌜ r ≡ pointCount (tab (limitAt lower upper) n) ⌝ }
+{
+    let mut total: u64 = 1;
+    for k in 0..n {
+        total = total * extent_of(lower[k], upper[k]);
+    }
+    total
+}
+
+// Whether dependence i, of n components, is zero or has a negative component before any positive one.
+fn is_backward(dependences: &[i64], i: usize, n: usize) -> bool
+    requires { ⌜ i * maxDepth + n ≤ length (now dependences) ⌝ }
+    ensures { λ r. ⌜ r ≡ backward (dependenceAt (now (dependences .entry)) n i) ⌝ }
+{
+    for k in 0..n {
+        let d = dependences[i * LoopNest::MAX_DEPTH + k];
+        if d < 0 {
+            return true;
+        }
+        if 0 < d {
+            return false;
+        }
+    }
+    true
+}
+
+// Whether a component of one of the m dependences is out of span.
+fn any_dependence_outside(dependences: &[i64], n: usize, m: usize) -> bool
+    requires { ⌜ (n ≤ maxDepth) × (m * maxDepth ≤ length (now dependences)) ⌝ }
+    ensures { λ r. ⌜ r ≡ any outOfSpan (tab (dependenceAt (now (dependences .entry)) n) m) ⌝ }
+{
+    for i in 0..m {
+        if any_outside(
+            dependences,
+            i * LoopNest::MAX_DEPTH,
+            n,
+            -LoopNest::MAX_COMPONENT,
+            LoopNest::MAX_COMPONENT,
+        ) {
+            return true;
+        }
+    }
+    false
+}
+
+// Whether one of the m dependences is backward.
+fn any_backward(dependences: &[i64], n: usize, m: usize) -> bool
+    requires { ⌜ (n ≤ maxDepth) × (m * maxDepth ≤ length (now dependences)) ⌝ }
+    ensures { λ r. ⌜ r ≡ any backward (tab (dependenceAt (now (dependences .entry)) n) m) ⌝ }
+{
+    for i in 0..m {
+        if is_backward(dependences, i, n) {
+            return true;
+        }
+    }
+    false
+}
+
+// Whether dependences i and j, of n components, are equal.
+fn are_equal(dependences: &[i64], i: usize, j: usize, n: usize) -> bool
+    requires { ⌜ (i * maxDepth + n ≤ length (now dependences)) × (j * maxDepth + n ≤ length (now dependences)) ⌝ }
+    ensures { λ r. ⌜ r ≡ eqV (dependenceAt (now (dependences .entry)) n i) (dependenceAt (now (dependences .entry)) n j) ⌝ }
+{
+    for k in 0..n {
+        let a = dependences[i * LoopNest::MAX_DEPTH + k];
+        let b = dependences[j * LoopNest::MAX_DEPTH + k];
+        if a != b {
+            return false;
+        }
+    }
+    true
+}
+
+// Whether dependence j equals one listed before it.
+fn equals_earlier(dependences: &[i64], j: usize, n: usize) -> bool
+    requires { ⌜ (n ≤ maxDepth) × (j * maxDepth + n ≤ length (now dependences)) ⌝ }
+    ensures { λ r. ⌜ r ≡ any (λ d. eqV d (dependenceAt (now (dependences .entry)) n j)) (tab (dependenceAt (now (dependences .entry)) n) j) ⌝ }
+{
+    for i in 0..j {
+        if are_equal(dependences, i, j, n) {
+            return true;
+        }
+    }
+    false
+}
+
+// Whether two of the m dependences are equal.
+fn any_equal(dependences: &[i64], n: usize, m: usize) -> bool
+    requires { ⌜ (n ≤ maxDepth) × (m * maxDepth ≤ length (now dependences)) ⌝ }
+    ensures { λ r. ⌜ r ≡ repeats eqV (tab (dependenceAt (now (dependences .entry)) n) m) ⌝ }
+{
+    for j in 0..m {
+        if equals_earlier(dependences, j, n) {
+            return true;
+        }
+    }
+    false
+}
+
+// The inner product of n places of the time vector with n places of another array, from place `from` on; all are in the span of a component.
+fn inner_product(time: &[i64], xs: &[i64], from: usize, n: usize) -> i64
+    requires { ⌜ (n ≤ maxDepth) × (n ≤ length (now time)) × (from + n ≤ length (now xs)) ⌝ }
+    requires { ⌜ (outOfSpan (part (now time) 0 n) ≡ false) × (outOfSpan (part (now xs) from n) ≡ false) ⌝ }
+    ensures { λ r. ⌜ r ≡ dots (part (now (time .entry)) 0 n) (part (now (xs .entry)) from n) ⌝ }
+{
+    let mut sum: i64 = 0;
+    for k in 0..n {
+        sum = sum + time[k] * xs[from + k];
+    }
+    sum
+}
+
+// Whether P·d is below 1 for one of the m dependences.
+fn any_against(time: &[i64], dependences: &[i64], n: usize, m: usize) -> bool
+    requires { ⌜ (n ≤ maxDepth) × (n ≤ length (now time)) × (m * maxDepth ≤ length (now dependences)) ⌝ }
+    requires { ⌜ (outOfSpan (part (now time) 0 n) ≡ false) × (any outOfSpan (tab (dependenceAt (now dependences) n) m) ≡ false) ⌝ }
+    ensures { λ r. ⌜ r ≡ any (λ d. ltZ (dots (part (now (time .entry)) 0 n) d) (pos 1)) (tab (dependenceAt (now (dependences .entry)) n) m) ⌝ }
+{
+    for i in 0..m {
+        if inner_product(time, dependences, i * LoopNest::MAX_DEPTH, n) < 1 {
+            return true;
+        }
+    }
+    false
+}
+
+// The first refusal of line 1: 2, 3 or 4, or 0.
+pub fn check_header(s: LoopNest) -> u8
+    ensures { λ r. ⌜ r ≡ firstMet s headerOrder ⌝ }
+{
+    if is_outside(1, LoopNest::MAX_DEPTH as i64, s.depth) {
+        return BAD_DEPTH;
+    }
+    if is_outside(1, LoopNest::MAX_DEPENDENCES as i64, s.count) {
+        return BAD_COUNT;
+    }
+    if is_outside(0, LoopNest::MAX_CUBE, s.cube) {
+        return BAD_CUBE;
+    }
+    0
+}
+
+// The refusals 5 and 6, of n loops: the number of the first, or 0.
+fn check_limits(s: LoopNest, n: usize) -> u8
+    requires { ⌜ (n ≡ depthOf s) × (n ≤ maxDepth) ⌝ }
+    ensures { λ r. ⌜ r ≡ firstMet s limitOrder ⌝ }
+{
+    let lower = s.lower;
+    let upper = s.upper;
+    if any_crossed(lower, upper, n) {
+        return BAD_LIMITS;
+    }
+    if LoopNest::MAX_ITERATIONS < point_count(lower, upper, n) {
+        return TOO_MANY_POINTS;
+    }
+    0
+}
+
+// The refusals 7 to 12, of n loops and m dependences: the number of the first, or 0.
+fn check_vectors(s: LoopNest, n: usize, m: usize) -> u8
+    requires { ⌜ (n ≡ depthOf s) × (n ≤ maxDepth) × (m ≡ countOf s) × (m ≤ maxDependences) ⌝ }
+    ensures { λ r. ⌜ r ≡ firstMet s vectorOrder ⌝ }
+{
+    let time = s.time;
+    let dependences = s.dependences;
+    if any_outside(
+        &time,
+        0,
+        n,
+        -LoopNest::MAX_COMPONENT,
+        LoopNest::MAX_COMPONENT,
+    ) {
+        return BAD_TIME;
+    }
+    if any_dependence_outside(&dependences, n, m) {
+        return BAD_DEPENDENCE;
+    }
+    if any_backward(&dependences, n, m) {
+        return BACKWARD_DEPENDENCE;
+    }
+    if any_equal(&dependences, n, m) {
+        return EQUAL_DEPENDENCES;
+    }
+    if any_against(&time, &dependences, n, m) {
+        return AGAINST_TIME;
+    }
+    if inner_product(&time, &time, 0, n) == 0 {
+        return ZERO_TIME;
+    }
+    0
+}
+
+// The refusal 13, of m dependences, or 0.
+fn check_weights(s: LoopNest, m: usize) -> u8
+    requires { ⌜ (m ≡ countOf s) × (m ≤ maxDependences) ⌝ }
+    ensures { λ r. ⌜ r ≡ firstMet s weightOrder ⌝ }
+{
+    if is_outside(0, LoopNest::MAX_BOUNDARY, s.boundary) {
+        return BAD_WEIGHT;
+    }
+    let weights = s.weights;
+    if any_outside(&weights, 0, m, 0, LoopNest::MAX_WEIGHT) {
+        return BAD_WEIGHT;
+    }
+    0
+}
+
+// The number of the first refusal, 2 to 13 in the document's order, of a nest with any content; 0 where it is accepted.
+pub fn check(s: LoopNest) -> u8
+    ensures { λ r. ⌜ r ≡ refusal s ⌝ }
+{
+    let header = check_header(s);
+    if header != 0 {
+        return header;
+    }
+    let n = to_size(s.depth);
+    let m = to_size(s.count);
+    let limits = check_limits(s, n);
+    if limits != 0 {
+        return limits;
+    }
+    let vectors = check_vectors(s, n, m);
+    if vectors != 0 {
+        return vectors;
+    }
+    check_weights(s, m)
+}
+
+// What is known of a nest: the number of its first refusal, 2 to 13, or 0 with the number of its iterations.
+pub struct Inspection {
+    pub refusal: u8,
+    pub iterations: usize,
+}
+
+// `check`, with the number of iterations of an accepted nest; 0 for a refused one.
+pub fn inspect(s: LoopNest) -> Inspection
+    ensures { λ r. ⌜ r ≡ record { refusal = refusal s; iterations = iterations s } ⌝ }
+{
+    let refusal = check(s);
+    if refusal != 0 {
+        return Inspection {
+            refusal: refusal,
+            iterations: 0,
+        };
+    }
+    let lower = s.lower;
+    let upper = s.upper;
+    let n = to_size(s.depth);
+    Inspection {
+        refusal: 0,
+        iterations: point_count(lower, upper, n) as usize,
+    }
+}

@@ -1,0 +1,4 @@
+-- Laws of the definitions, which the functions' proofs cite.
+pub mod Counts
+pub mod RowLaws
+pub mod SpanLaws

@@ -1,0 +1,2 @@
+-- What a row of a table is.
+pub mod Rows
