@@ -1,18 +1,18 @@
 -- Lists: the functions that the definitions of more than one crate share, and their laws. A test's outcome is an equation, `test ≡ true`.
 -- A choice in a definition is an `elim` on its test, since antt computes both branches of an if-then-else that is a function.
 -- Assumes nothing.
-use mathlib.Core.Path.{_≡_, refl, sym, ap, subst, _∙_}
+use mathlib.Core.Path.{_≡_, refl, sym, ap, ap₂, subst, _∙_}
 use mathlib.Core.Bool.{Bool, true, false, not, _&&_, _||_}
-use mathlib.Core.List.{List, [], _∷_, _++_, map}
+use mathlib.Core.List.{List, [], _∷_, _++_, map, flatMap, append-assoc, append-nil}
 use mathlib.Core.Logic.{_⊎_, inl, inr, ⊎-elim}
-use Prim.Native.Nat.{ℕ, zero, suc, _+_, _<_, _≤_}
-use native.Mathlib.Nat.{eq-or-lt-of-le, le-of-suc-le-suc, not-suc-le-zero}
+use Prim.Native.Nat.{ℕ, zero, suc, _+_, _*_, _<_, _≤_}
+use native.Mathlib.Nat.{eq-or-lt-of-le, le-of-suc-le-suc, not-suc-le-zero, mul-suc}
 use native.Mathlib.Numerals.{add-one}
 use native.Mathlib.Omega.{arith}
 use borrow.Author.Tests.{ltb-true, ltb-false}
 use lib.Dec.{T, ltb}
-use lib.ListN.{length, getD, length-append, List·getD-append}
-use lib.Seq.{getD-at}
+use lib.ListN.{length, getD, drop, length-append, List·getD-append}
+use lib.Seq.{getD-at, ext-getD, drop-cons, drop-length}
 
 module _ {A : Type 0} where
   -- some element passes the test
@@ -242,3 +242,71 @@ module _ {A : Type 0} where
   count-append p (x ∷ xs) ys =
       let h = count-append p xs ys in
       split (p x) (λ t. let a = count-yes p x (xs ++ ys) t in let b = count-yes p x xs t in omega arith) (λ f. let a = count-no p x (xs ++ ys) f in let b = count-no p x xs f in omega arith)
+
+  -- ---- tables, entry by entry
+  -- no entry passes
+  pub any-tab-none : (p : A → Bool) (f : ℕ → A) (n : ℕ) → ((i : ℕ) → i < n → p (f i) ≡ false) → any p (tab f n) ≡ false
+  any-tab-none p f n h = split (any p (tab f n)) (λ t. let r = any-tab-some p f n t in clash (r .2) (h (r .0) (r .1))) (λ e. e)
+
+  -- two tables with the same entries
+  pub tab-same : (f g : ℕ → A) (n : ℕ) → ((i : ℕ) → i < n → f i ≡ g i) → tab f n ≡ tab g n
+  unfolding tab
+  tab-same f g zero h = refl
+  tab-same f g (suc n) h = ap₂ (λ (l : List A) (x : A). l ++ (x ∷ [])) (tab-same f g n (λ i l. h i (omega arith))) (h n (omega arith))
+
+  -- a table of a list's elements is the list
+  pub tab-list : (f : ℕ → A) (xs : List A) (d : A) (n : ℕ) → length xs ≡ n → ((i : ℕ) → i < n → f i ≡ getD xs i d) → tab f n ≡ xs
+  tab-list f xs d n e h =
+      ext-getD d (tab f n) xs (length-tab f n ∙ sym e)
+      (λ i l. let k : i < n = subst (λ z. i < z) (length-tab f n) l in getD-tab f n i d k ∙ h i k)
+
+  -- the first entry and the others
+  pub tab-cons : (f : ℕ → A) (n : ℕ) → tab f (suc n) ≡ f 0 ∷ tab (λ k. f (suc k)) n
+  unfolding tab
+  tab-cons f zero = refl
+  tab-cons f (suc n) = ap (λ xs. xs ++ (f (suc n) ∷ [])) (tab-cons f n)
+
+  -- entry k and those behind it
+  pub tab-drop : (f : ℕ → A) (n k : ℕ) → k < n → drop k (tab f n) ≡ f k ∷ drop (k + 1) (tab f n)
+  tab-drop f n k h =
+      drop-cons (tab f n) k (f 0) (subst (λ m. k < m) (sym (length-tab f n)) h) ∙ ap₂ (λ (x : A) (m : ℕ). x ∷ drop m (tab f n)) (getD-tab f n k (f 0) h) (sym (add-one k))
+
+  -- nothing is behind the last
+  pub tab-end : (f : ℕ → A) (n : ℕ) → drop n (tab f n) ≡ []
+  tab-end f n = ap (λ m. drop m (tab f n)) (sym (length-tab f n)) ∙ drop-length (tab f n)
+
+-- ---- lists made of lists
+module _ {A B : Type 0} where
+  -- of two lists, one behind the other
+  pub flatMap-append : (f : A → List B) (xs ys : List A) → flatMap f (xs ++ ys) ≡ flatMap f xs ++ flatMap f ys
+  unfolding flatMap
+  flatMap-append f [] ys = refl
+  flatMap-append f (x ∷ xs) ys = ap (λ l. f x ++ l) (flatMap-append f xs ys) ∙ sym (append-assoc (f x) (flatMap f xs) (flatMap f ys))
+
+  -- of one element
+  pub flatMap-one : (f : A → List B) (x : A) → flatMap f (x ∷ []) ≡ f x
+  unfolding flatMap
+  flatMap-one f x = append-nil (f x)
+
+  -- of a table with one more entry
+  pub flatMap-tab-more : (f : A → List B) (g : ℕ → A) (k : ℕ) → flatMap f (tab g (k + 1)) ≡ flatMap f (tab g k) ++ f (g k)
+  flatMap-tab-more f g k = ap (flatMap f) (tab-more g k) ∙ flatMap-append f (tab g k) (g k ∷ []) ∙ ap (λ l. flatMap f (tab g k) ++ l) (flatMap-one f (g k))
+
+  -- where each of n lists has c elements, all have c * n
+  pub flatMap-length : (f : A → List B) (g : ℕ → A) (c n : ℕ) → ((i : ℕ) → i < n → length (f (g i)) ≡ c) → length (flatMap f (tab g n)) ≡ c * n
+  unfolding flatMap tab
+  flatMap-length f g c zero h = omega arith
+  flatMap-length f g c (suc n) h =
+      let e = ap length (flatMap-append f (tab g n) (g n ∷ []) ∙ ap (λ l. flatMap f (tab g n) ++ l) (flatMap-one f (g n))) in
+      e ∙ length-append (flatMap f (tab g n)) (f (g n))
+      ∙ omega (arith, h n (omega arith), flatMap-length f g c n (λ i l. h i (omega arith)), mul-suc c n)
+
+  -- a table with a function at each entry
+  pub map-tab : (f : A → B) (g : ℕ → A) (n : ℕ) → map f (tab g n) ≡ tab (λ k. f (g k)) n
+  unfolding tab
+  map-tab f g zero = refl
+  map-tab f g (suc n) = map-append (tab g n) (g n ∷ []) ∙ ap (λ l. l ++ (f (g n) ∷ [])) (map-tab f g n)
+    where
+      map-append : (xs ys : List A) → map f (xs ++ ys) ≡ map f xs ++ map f ys
+      map-append [] ys = refl
+      map-append (x ∷ xs) ys = ap (λ (l : List B). f x ∷ l) (map-append xs ys)

@@ -2,6 +2,7 @@
 -- Assumes nothing.
 use mathlib.Core.Path.{_≡_, refl}
 use Prim.Native.Nat.{ℕ, zero, suc, _≤_, _<_}
+use native.Mathlib.Omega.{arith}
 use borrow.Author.Tests.{le-leb, lt-leb, eq-eqb}
 use mathlib.Core.Bool.{true, false}
 use lib.Dec.{leb, eqb}
@@ -20,6 +21,13 @@ pub orElse-second : (a b : ℕ) → a ≡ 0 → orElse a b ≡ b
 unfolding orElse
 orElse-second a b e = rw e refl
 
+-- neither
+pub orElse-zero : (a b : ℕ) → orElse a b ≡ 0 → (a ≡ 0) × (b ≡ 0)
+unfolding orElse
+orElse-zero zero b e = (refl, e)
+orElse-zero (suc a) b e = absurd (omega arith)
+
+-- a buffer that is long enough, and one that is too short
 pub long-enough : (needed room : ℕ) → needed ≤ room → shortBuffer needed room ≡ 0
 unfolding shortBuffer
 long-enough needed room h = rw (le-leb needed room h, shortBuffer) refl

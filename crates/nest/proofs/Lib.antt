@@ -2,6 +2,7 @@
 pub mod Words
 pub mod Refused
 pub mod Accepted
+pub mod Spans
 pub mod Order
 pub mod Sources
 pub mod Ranks

@@ -12,20 +12,12 @@ use lib.IntN.{ℤ, pos, _+ℤ_, _-ℤ_}
 use lib.ListN.{length, getD, set, drop, replicate, length-append}
 use lib.Seq.{drop-cons, drop-length}
 use lib.Signed.{_≤ℤ_}
-use Rattle.integers.specs.Lists.{tab, length-tab, getD-tab}
+use Rattle.integers.specs.Lists.{tab, length-tab, getD-tab, tab-drop, tab-end}
 use Rattle.integers.specs.Vector.{Vector}
 use Rattle.nest.specs.Nest.{Limit, toℕ, padded, maxDepth}
 use Rattle.nest.specs.Points.{extent, points, pointCount, rank, Inside}
 use Rattle.nest.proofs.Order.{point-at, index-of, rank-inside, rank-of-point, join-below}
 use Rattle.nest.proofs.Padding.{padded-set, padded-none}
-
--- ---- one loop of a list that is given entry by entry
-tab-drop : {A : Type 0} (f : ℕ → A) (n k : ℕ) → k < n → drop k (tab f n) ≡ f k ∷ drop (k + 1) (tab f n)
-tab-drop f n k h =
-    drop-cons (tab f n) k (f 0) (subst (λ m. k < m) (sym (length-tab f n)) h) ∙ ap₂ (λ (x : _) (m : ℕ). x ∷ drop m (tab f n)) (getD-tab f n k (f 0) h) (sym (add-one k))
-
-tab-end : {A : Type 0} (f : ℕ → A) (n : ℕ) → drop n (tab f n) ≡ []
-tab-end f n = ap (λ m. drop m (tab f n)) (sym (length-tab f n)) ∙ drop-length (tab f n)
 
 -- within the limits, entry by entry
 abbrev pub Within : Limit → ℤ → Type 0

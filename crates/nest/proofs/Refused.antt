@@ -27,9 +27,9 @@ module _ (s : LoopNest) where
       passed s p rs (none p (above-mem p rs (b .0) r m)) ∙ met-first rs (b .1) r m t none
 
   -- where none is met the answer is 0
-  none-met : (rs : List Refusal) → ((q : Refusal) → holds s q ≡ false) → firstMet s rs ≡ 0
-  none-met [] none = unfold firstMet in refl
-  none-met (r ∷ rs) none = passed s r rs (none r) ∙ none-met rs none
+  pub none-of : ((q : Refusal) → holds s q ≡ false) → (rs : List Refusal) → firstMet s rs ≡ 0
+  none-of none [] = unfold firstMet in refl
+  none-of none (r ∷ rs) = passed s r rs (none r) ∙ none-of none rs
 
   -- where the answer is 0 none of the list is met
   pub all-clear : (rs : List Refusal) → firstMet s rs ≡ 0 → (q : Refusal) → List·Memᴰ q rs → holds s q ≡ false
@@ -97,7 +97,7 @@ answered s r = (
 -- a nest is accepted exactly if no condition holds
 pub accepted-iff : (s : LoopNest) → (refusal s ≡ 0) ↔ ((q : Refusal) → Condition s q → ⊥)
 unfolding refusal
-accepted-iff s = (λ e q. unmet-words s q (all-clear s order e q (listed q)), λ n. none-met s order (λ q. words-unmet s q (n q)))
+accepted-iff s = (λ e q. unmet-words s q (all-clear s order e q (listed q)), λ n. none-of s (λ q. words-unmet s q (n q)) order)
 
 -- what each test says of an accepted nest
 pub accepted : (s : LoopNest) → refusal s ≡ 0 → (q : Refusal) → holds s q ≡ false

@@ -13,7 +13,7 @@ use lib.Signed.{ltZ}
 use borrow.Author.Count.{below-more}
 use Rattle.integers.specs.Bounds.{abs-+, abs-*}
 use Rattle.integers.specs.Tests.{signed}
-use Rattle.integers.specs.Lists.{tab, clash, length-tab, getD-tab, tab-more, any-tab-each}
+use Rattle.integers.specs.Lists.{tab, clash, length-tab, getD-tab, tab-more, any-tab-each, tab-same}
 use Rattle.integers.specs.Vector.{Vector, dots, eqZ, eqV, eqZ-other, eqV-same, eqV-other}
 use Rattle.nest.specs.Nest.{part, maxDepth, maxComponent}
 use Rattle.nest.specs.Refusals.{outside, outOfSpan, backward}
@@ -80,12 +80,6 @@ module _ (xs : List ℤ) (from : ℕ) where
       below-more (λ i. getD xs (from + i) (pos 0) ≡ pos 0) k h z
 
 -- ---- equality
-
--- lists of equal components
-tab-same : (f g : ℕ → ℤ) (n : ℕ) → ((k : ℕ) → k < n → f k ≡ g k) → tab f n ≡ tab g n
-unfolding tab
-tab-same f g zero h = refl
-tab-same f g (suc n) h = cc (tab-same f g n (λ k l. h k (omega arith)), h n (omega arith))
 
 module _ (xs : List ℤ) (a b : ℕ) where
   -- so far all components are equal

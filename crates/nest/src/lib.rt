@@ -35,6 +35,8 @@ pub const AGAINST_TIME: u8 = 11;
 pub const ZERO_TIME: u8 = 12;
 // weight span: the boundary value or a weight out of span
 pub const BAD_WEIGHT: u8 = 13;
+// short tray: a lent buffer has fewer entries than are needed
+pub const SHORT_BUFFER: u8 = 14;
 
 // A loop nest. Every field may hold any number; `check` says whether the nest is accepted. Of each array the first `depth` or `count` places are part
 // of the nest, and the others are ignored.

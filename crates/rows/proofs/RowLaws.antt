@@ -11,7 +11,7 @@ use lib.IntN.{ℤ, pos, negsuc, _+ℤ_, _-ℤ_}
 use lib.ListN.{length, getD}
 use lib.Signed.{_≤ℤ_, ltZ, ltZ-no}
 use Rattle.integers.specs.Linear.{ints, sum}
-use Rattle.integers.specs.Lists.{tab, or-false, count, clash, below-or-not}
+use Rattle.integers.specs.Lists.{tab, or-false, count, clash, below-or-not, tab-cons}
 use Rattle.integers.specs.Tests.{signed}
 use Rattle.integers.specs.Vector.{Vector, eqZ}
 use Rattle.nest.specs.declared.LoopNest.{LoopNest}
@@ -27,11 +27,6 @@ use Rattle.rows.specs.Rows.{outermost, rowStart, rowLength}
 use Rattle.rows.proofs.Counts.{start-is, length-is}
 
 -- ---- the outermost loop and the inner ones
-tab-cons : {A : Type 0} (f : ℕ → A) (n : ℕ) → tab f (suc n) ≡ f 0 ∷ tab (λ k. f (suc k)) n
-unfolding tab
-tab-cons f zero = refl
-tab-cons f (suc n) = ap (λ xs. xs ++ (f (suc n) ∷ [])) (tab-cons f n)
-
 pub record Outer (s : LoopNest) : Type 0 where
   pub inner : List Limit
   pub all : limitsOf s ≡ limit s 0 ∷ inner

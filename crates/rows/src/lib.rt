@@ -1,10 +1,9 @@
 // The row of one outermost index, as a part of the caller's own table (document 01, "The row").
 use nest::LoopNest;
+use nest::SHORT_BUFFER;
 ghost use mathlib.Core.Path.{_≡_};
 ghost use Rattle.rows.specs.Rows.{spanOf, rowOf};
 
-// short tray: a lent table has fewer entries than there are iterations
-const SHORT_BUFFER: u8 = 14;
 // no such row: index outside the outermost limits
 pub const NO_SUCH_ROW: u8 = 19;
 

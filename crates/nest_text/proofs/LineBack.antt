@@ -1,0 +1,163 @@
+-- Lines that were written are read back as their numbers, and lines that were read are written again as they stood.
+-- Assumes nothing.
+use mathlib.Core.Path.{_≡_, refl, sym, ap, ap₂, subst, _∙_}
+use mathlib.Core.Bool.{Bool, true, false, not, _&&_}
+use mathlib.Core.List.{List, [], _∷_, _++_, map, flatMap, append-assoc}
+use Prim.Native.Nat.{ℕ, zero, suc, _+_, _*_, _-_, _≤_, _<_}
+use native.Mathlib.Nat.{le-of-suc-le-suc, not-suc-le-zero}
+use native.Mathlib.Numerals.{add-one}
+use native.Mathlib.Omega.{arith}
+use borrow.Author.Tests.{eq-eqb, eqb-true, not-true, ltb-true, ltb-false}
+use lib.Dec.{eqb, ltb}
+use lib.IntN.{ℤ, pos}
+use lib.ListN.{length, getD, take, drop, length-append, length-drop, take-append-drop, List·getD-eq-default}
+use lib.Seq.{take-at, drop-at, getD-at, drop-append-add, drop-cons, take-add, length-take-le, ext-getD}
+use Rattle.integers.specs.Lists.{any, tab, clash, split, and-true, length-tab, getD-tab, any-tab-some, any-tab-each, any-tab-none, tab-list, flatMap-append, flatMap-one}
+use Rattle.nest_text.specs.declared.fields.Field.{Field}
+use Rattle.nest_text.specs.declared.fields.Field.the-variants.{Number, Malformed}
+use Rattle.nest_text.specs.Fields.{Bytes, newline, fieldOf, readOf}
+use Rattle.nest_text.specs.Text.{line, isMalformed, numberOf, fieldAt, isLine, numbersOf, behind, areLines, lineNumbers}
+use Rattle.nest_text.specs.Stored.{InColumns}
+use Rattle.nest_text.proofs.FieldBack.{read-written, written-again}
+use Rattle.nest_text.proofs.WriteLaws.{field-length}
+
+-- ---- numbers that six columns hold
+abbrev pub AllInColumns : List ℤ → Type 0
+AllInColumns [] = Unit {0}
+AllInColumns (z ∷ zs) = InColumns z × AllInColumns zs
+
+-- the same of each line
+abbrev pub LinesInColumns : List (List ℤ) → Type 0
+LinesInColumns [] = Unit {0}
+LinesInColumns (l ∷ ls) = AllInColumns l × LinesInColumns ls
+
+-- ---- a line that was written, with bytes behind it
+fields-cons : (z : ℤ) (zs : List ℤ) (rest : Bytes) → flatMap fieldOf (z ∷ zs) ++ rest ≡ fieldOf z ++ (flatMap fieldOf zs ++ rest)
+unfolding flatMap
+fields-cons z zs rest = append-assoc (fieldOf z) (flatMap fieldOf zs) rest
+
+-- six bytes for each number
+pub all-length : (zs : List ℤ) → AllInColumns zs → length (flatMap fieldOf zs) ≡ 6 * length zs
+all-length [] h = unfold flatMap in omega arith
+all-length (z ∷ zs) h = step (all-length zs (h .1))
+  where
+    step : length (flatMap fieldOf zs) ≡ 6 * length zs → length (flatMap fieldOf (z ∷ zs)) ≡ 6 * suc (length zs)
+    step ih = unfold flatMap in length-append (fieldOf z) (flatMap fieldOf zs) ∙ omega (arith, field-length z (h .0), ih)
+
+-- field i is read as number i
+field-written : (zs : List ℤ) (rest : Bytes) (i : ℕ) → AllInColumns zs → i < length zs → fieldAt (flatMap fieldOf zs ++ rest) i ≡ Number (getD zs i (pos 0))
+field-written [] rest i h l = absurd (not-suc-le-zero l)
+field-written (z ∷ zs) rest zero h l =
+    ap (λ b. readOf (take 6 b)) (fields-cons z zs rest) ∙ ap readOf (take-at (fieldOf z) (flatMap fieldOf zs ++ rest) 6 (field-length z (h .0))) ∙ read-written z (h .0)
+field-written (z ∷ zs) rest (suc i) h l =
+    let six = field-length z (h .0) in
+    let e : 6 * suc i ≡ length (fieldOf z) + 6 * i = omega arith in
+    ap₂ (λ k b. readOf (take 6 (drop k b))) e (fields-cons z zs rest) ∙ ap (λ b. readOf (take 6 b)) (drop-append-add (fieldOf z) (flatMap fieldOf zs ++ rest) (6 * i))
+    ∙ field-written zs rest i (h .1) (le-of-suc-le-suc l)
+
+-- what a written line is read as
+pub record LineRead (zs : List ℤ) (rest bs : Bytes) : Type 0 where
+  pub in-form : isLine (length zs) bs ≡ true
+  pub numbers : numbersOf (length zs) bs ≡ zs
+  pub rest-is : behind (length zs) bs ≡ rest
+
+-- each number, byte 10, and what stands behind
+pub line-read : (zs : List ℤ) (rest : Bytes) → AllInColumns zs → LineRead zs rest (line zs ++ rest)
+unfolding line isLine numbersOf
+line-read zs rest h =
+    let fields = flatMap fieldOf zs in
+    let front : (fields ++ (newline ∷ [])) ++ rest ≡ fields ++ (newline ∷ rest) = append-assoc fields (newline ∷ []) rest in
+    let long = all-length zs h in
+    let read : (i : ℕ) → i < length zs → fieldAt ((fields ++ (newline ∷ [])) ++ rest) i ≡ Number (getD zs i (pos 0)) = λ i l. ap (λ b. fieldAt b i) front ∙ field-written zs (newline ∷ rest) i h l in
+    record {
+      in-form =
+          ap₂ (λ a b. not a && b)
+          (any-tab-none isMalformed (fieldAt ((fields ++ (newline ∷ [])) ++ rest)) (length zs) (λ i l. ap isMalformed (read i l)))
+          (eq-eqb (getD ((fields ++ (newline ∷ [])) ++ rest) (6 * length zs) 0) newline (ap (λ b. getD b (6 * length zs) 0) front ∙ getD-at fields newline rest 0 (6 * length zs) long));
+      numbers = tab-list (λ i. numberOf (fieldAt ((fields ++ (newline ∷ [])) ++ rest) i)) zs (pos 0) (length zs) refl (λ i l. ap numberOf (read i l));
+      rest-is = drop-at (fields ++ (newline ∷ [])) rest (6 * length zs + 1) (length-append fields (newline ∷ []) ∙ ap (λ n. n + 1) long);
+    }
+
+-- lines that were written
+pub lines-read : (ls : List (List ℤ)) → LinesInColumns ls → (areLines (map length ls) (flatMap line ls) ≡ true) × (lineNumbers (map length ls) (flatMap line ls) ≡ ls)
+lines-read [] h = unfold areLines lineNumbers flatMap in (refl, refl)
+lines-read (l ∷ ls) h = step (lines-read ls (h .1)) (line-read l (flatMap line ls) (h .0))
+  where
+    step : (areLines (map length ls) (flatMap line ls) ≡ true) × (lineNumbers (map length ls) (flatMap line ls) ≡ ls) → LineRead l (flatMap line ls) (line l ++ flatMap line ls)
+        → (areLines (map length (l ∷ ls)) (flatMap line (l ∷ ls)) ≡ true) × (lineNumbers (map length (l ∷ ls)) (flatMap line (l ∷ ls)) ≡ l ∷ ls)
+    step ih r = unfold areLines lineNumbers flatMap in (
+      ap₂ (λ b rest. elim b as (λ _. Bool) [ true ↦ areLines (map length ls) rest | false ↦ false ]) (r .in-form) (r .rest-is) ∙ ih .0,
+      ap₂ (λ (zs : List ℤ) (rest : Bytes). zs ∷ lineNumbers (map length ls) rest) (r .numbers) (r .rest-is) ∙ ap (λ (x : List (List ℤ)). l ∷ x) (ih .1),
+    )
+
+-- ---- a line that was read
+known : (f : Field) → isMalformed f ≡ false → f ≡ Number (numberOf f)
+known (Number z) e = refl
+known Malformed e = clash refl e
+
+-- a field that was read is written as it stood
+field-again : (bs : Bytes) (i : ℕ) → 6 * i + 6 ≤ length bs → isMalformed (fieldAt bs i) ≡ false → fieldOf (numberOf (fieldAt bs i)) ≡ take 6 (drop (6 * i) bs)
+field-again bs i h e =
+    let room : 6 ≤ length (drop (6 * i) bs) = subst (λ n. 6 ≤ n) (sym (length-drop (6 * i) bs)) (omega arith) in
+    written-again (take 6 (drop (6 * i) bs)) (numberOf (fieldAt bs i)) (length-take-le 6 (drop (6 * i) bs) room) (known (fieldAt bs i) e)
+
+-- k fields that were read
+fields-again : (bs : Bytes) (k : ℕ) → 6 * k ≤ length bs → ((i : ℕ) → i < k → isMalformed (fieldAt bs i) ≡ false) → flatMap fieldOf (tab (λ i. numberOf (fieldAt bs i)) k) ≡ take (6 * k) bs
+fields-again bs zero h e = unfold tab flatMap in refl
+fields-again bs (suc k) h e = step (fields-again bs k (omega arith) (λ i l. e i (omega arith)))
+  where
+    front : List ℤ
+    front = tab (λ i. numberOf (fieldAt bs i)) k
+
+    six : 6 * k + 6 ≡ 6 * suc k
+    six = omega arith
+
+    step : flatMap fieldOf front ≡ take (6 * k) bs → flatMap fieldOf (tab (λ i. numberOf (fieldAt bs i)) (suc k)) ≡ take (6 * suc k) bs
+    step ih = unfold tab in
+        flatMap-append fieldOf front (numberOf (fieldAt bs k) ∷ [])
+        ∙ ap₂ (λ (a b : Bytes). a ++ b) ih (flatMap-one fieldOf (numberOf (fieldAt bs k)) ∙ field-again bs k (omega arith) (e k (omega arith)))
+        ∙ sym (take-add (6 * k) 6 bs) ∙ ap (λ n. take n bs) six
+
+-- where a byte that is not 0 is read, there is a place for it
+reaches : (bs : Bytes) (n b : ℕ) → 0 < b → getD bs n 0 ≡ b → n < length bs
+reaches bs n b h e = split (ltb n (length bs)) (λ t. ltb-true n (length bs) t) (λ f. let d = List·getD-eq-default bs 0 {n = n} (ltb-false n (length bs) f) in absurd (omega arith))
+
+-- a line that was read, with what stands behind it
+pub line-again : (k : ℕ) (bs : Bytes) → isLine k bs ≡ true → line (numbersOf k bs) ++ behind k bs ≡ bs
+unfolding line isLine numbersOf
+line-again k bs h =
+    let a = and-true (not (any isMalformed (tab (fieldAt bs) k))) (eqb (getD bs (6 * k) 0) newline) h in
+    let none = not-true (any isMalformed (tab (fieldAt bs) k)) (a .0) in
+    let ten : getD bs (6 * k) 0 ≡ newline = eqb-true (getD bs (6 * k) 0) newline (a .1) in
+    let room : 6 * k < length bs = reaches bs (6 * k) newline (omega arith) ten in
+    let f = fields-again bs k (omega arith) (λ i l. any-tab-each isMalformed (fieldAt bs) k i none l) in
+    let e : drop (6 * k + 1) bs ≡ drop (suc (6 * k)) bs = ap (λ n. drop n bs) (add-one (6 * k)) in
+    ap₂ (λ (x y : Bytes). (x ++ (newline ∷ [])) ++ y) f e ∙ append-assoc (take (6 * k) bs) (newline ∷ []) (drop (suc (6 * k)) bs)
+    ∙ ap (λ (b : ℕ). take (6 * k) bs ++ (b ∷ drop (suc (6 * k)) bs)) (sym ten) ∙ ap (λ l. take (6 * k) bs ++ l) (sym (drop-cons bs (6 * k) 0 room)) ∙ take-append-drop (6 * k) bs
+
+-- a line of k fields has k numbers
+pub numbers-length : (k : ℕ) (bs : Bytes) → length (numbersOf k bs) ≡ k
+unfolding numbersOf
+numbers-length k bs = length-tab (λ i. numberOf (fieldAt bs i)) k
+
+-- no byte is left
+none-left : (bs : Bytes) → eqb (length bs) 0 ≡ true → [] ≡ bs
+none-left [] e = refl
+none-left (b ∷ bs) e = absurd (omega (arith, eqb-true (suc (length bs)) 0 e))
+
+-- lines that were read
+pub lines-again : (ks : List ℕ) (bs : Bytes) → areLines ks bs ≡ true → flatMap line (lineNumbers ks bs) ≡ bs
+unfolding areLines lineNumbers flatMap
+lines-again [] bs h = none-left bs h
+lines-again (k ∷ ks) bs h = go (isLine k bs) refl h (lines-again ks (behind k bs))
+  where
+    go : (b : Bool) → isLine k bs ≡ b → _≡_ {A = Bool} (elim b as (λ _. Bool) [ true ↦ areLines ks (behind k bs) | false ↦ false ]) true
+        → (areLines ks (behind k bs) ≡ true → flatMap line (lineNumbers ks (behind k bs)) ≡ behind k bs) → line (numbersOf k bs) ++ flatMap line (lineNumbers ks (behind k bs)) ≡ bs
+    go true q h ih = ap (λ l. line (numbersOf k bs) ++ l) (ih h) ∙ line-again k bs q
+    go false q h ih = clash h refl
+
+-- each line has as many numbers as it has fields
+pub lines-widths : (ks : List ℕ) (bs : Bytes) → map length (lineNumbers ks bs) ≡ ks
+unfolding lineNumbers
+lines-widths [] bs = refl
+lines-widths (k ∷ ks) bs = ap₂ (λ (a : ℕ) (l : List ℕ). a ∷ l) (numbers-length k bs) (lines-widths ks (behind k bs))

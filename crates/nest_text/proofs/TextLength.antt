@@ -1,0 +1,121 @@
+-- The text of an accepted nest, part by part, and how long each part is.
+-- Assumes nothing.
+use mathlib.Core.Path.{_≡_, sym, ap, _∙_}
+use mathlib.Core.List.{List, [], _∷_, _++_, map, flatMap, append-assoc}
+use Prim.Native.Nat.{ℕ, zero, suc, _+_, _*_, _≤_, _<_}
+use native.Mathlib.Nat.{mul-suc, mul-le-mul}
+use native.Mathlib.Numerals.{add-one}
+use native.Mathlib.Omega.{arith}
+use lib.IntN.{ℤ, pos}
+use lib.ListN.{length, getD, length-append}
+use Rattle.integers.specs.Lists.{tab, flatMap-append, flatMap-one, flatMap-length, map-tab}
+use Rattle.nest.specs.declared.LoopNest.{LoopNest}
+use Rattle.nest.specs.Nest.{Limit, part, depthOf, countOf, limitAt, limitsOf, timeOf, dependenceAt, dependencesOf, weightsOf, maxDepth, maxDependences, maxCube, maxBoundary, maxWeight}
+use Rattle.nest_text.specs.Fields.{Bytes, fieldOf}
+use Rattle.nest_text.specs.Text.{line, linesOf, textOf}
+use Rattle.nest_text.specs.Stored.{InColumns, EachInColumns}
+use Rattle.nest_text.proofs.WriteLaws.{field-length, line-length, line-cons, pair-length}
+use Rattle.nest.proofs.Spans.{Spans}
+use Rattle.nest_text.proofs.Columns.{limit-columns, component-columns, count-columns}
+
+-- the numbers of line 1, and of the line of loop k
+abbrev pub shapeLine : LoopNest → List ℤ
+shapeLine s = s .depth ∷ s .count ∷ s .cube ∷ []
+
+-- of the line of loop k
+abbrev pub limitLine : LoopNest → ℕ → List ℤ
+limitLine s k = getD (s .lower) k (pos 0) ∷ getD (s .upper) k (pos 0) ∷ []
+
+-- of the lines of all loops
+abbrev pub limitLines : LoopNest → List (List ℤ)
+limitLines s = tab (limitLine s) (depthOf s)
+
+-- the text line by line
+pub text-parts : (s : LoopNest) → line (shapeLine s) ++ flatMap line (limitLines s) ++ line (timeOf s) ++ flatMap line (dependencesOf s) ++ line (s .boundary ∷ weightsOf s) ≡ textOf s
+unfolding textOf linesOf flatMap limitsOf
+text-parts s =
+    let m : map (λ (l : Limit). l .lower ∷ l .upper ∷ []) (tab (limitAt (s .lower) (s .upper)) (depthOf s)) ≡ limitLines s = map-tab (λ (l : Limit). l .lower ∷ l .upper ∷ []) (limitAt (s .lower) (s .upper)) (depthOf s) in
+    let last = s .boundary ∷ weightsOf s in
+    let rest = timeOf s ∷ (dependencesOf s ++ (last ∷ [])) in
+    let d : flatMap line (dependencesOf s ++ (last ∷ [])) ≡ flatMap line (dependencesOf s) ++ line last = flatMap-append line (dependencesOf s) (last ∷ []) ∙ ap (λ l. flatMap line (dependencesOf s) ++ l) (flatMap-one line last) in
+    let b : flatMap line (map (λ (l : Limit). l .lower ∷ l .upper ∷ []) (tab (limitAt (s .lower) (s .upper)) (depthOf s)) ++ rest) ≡ flatMap line (limitLines s) ++ (line (timeOf s) ++ (flatMap line (dependencesOf s) ++ line last)) = ap (λ l. flatMap line (l ++ rest)) m ∙ flatMap-append line (limitLines s) rest ∙ ap (λ l. flatMap line (limitLines s) ++ (line (timeOf s) ++ l)) d in
+    regroup (line (shapeLine s)) (flatMap line (limitLines s)) (line (timeOf s)) (flatMap line (dependencesOf s)) (line last) ∙ ap (λ l. line (shapeLine s) ++ l) (sym b)
+  where
+    regroup : (a b c d e : Bytes) → (((a ++ b) ++ c) ++ d) ++ e ≡ a ++ (b ++ (c ++ (d ++ e)))
+    regroup a b c d e = simp append-assoc
+
+-- ---- each number has room in six columns
+module _ (s : LoopNest) (h : Spans s) where
+  -- line 1
+  pub shape-columns : EachInColumns (shapeLine s) 0 3
+  shape-columns zero l = count-columns 1 maxDepth (s .depth) (omega arith) (h .depth-span)
+  shape-columns (suc zero) l = count-columns 1 maxDependences (s .count) (omega arith) (h .count-span)
+  shape-columns (suc (suc zero)) l = count-columns 0 maxCube (s .cube) (omega arith) (h .cube-span)
+  shape-columns (suc (suc (suc i))) l = absurd (omega arith)
+
+  -- the limits of loop k
+  pub limits-columns : (k : ℕ) → k < depthOf s → InColumns (getD (s .lower) k (pos 0)) × InColumns (getD (s .upper) k (pos 0))
+  limits-columns k l = (limit-columns (getD (s .lower) k (pos 0)) (h .lower-span k l), limit-columns (getD (s .upper) k (pos 0)) (h .upper-span k l))
+
+  -- the time vector
+  pub time-columns : EachInColumns (s .time) 0 (depthOf s)
+  time-columns k l = component-columns (getD (s .time) (0 + k) (pos 0)) (h .time-span k l)
+
+  -- dependence i
+  pub dependence-columns : (i : ℕ) → i < countOf s → EachInColumns (s .dependences) (i * maxDepth) (depthOf s)
+  dependence-columns i l k m = component-columns (getD (s .dependences) (i * maxDepth + k) (pos 0)) (h .dependence-span i l k m)
+
+  -- the boundary value
+  pub boundary-columns : InColumns (s .boundary)
+  boundary-columns = count-columns 0 maxBoundary (s .boundary) (omega arith) (h .boundary-span)
+
+  -- the weights
+  pub weight-columns : EachInColumns (s .weights) 0 (countOf s)
+  weight-columns i l = count-columns 0 maxWeight (getD (s .weights) (0 + i) (pos 0)) (omega arith) (h .weight-span i l)
+
+  -- ---- the length of each part
+  pub shape-length : length (line (shapeLine s)) ≡ 19
+  unfolding tab
+  shape-length = line-length (λ i. getD (shapeLine s) (0 + i) (pos 0)) 3 shape-columns
+
+  -- 13 bytes for each loop
+  pub limits-length : length (flatMap line (limitLines s)) ≡ 13 * depthOf s
+  limits-length = flatMap-length line (limitLine s) 13 (depthOf s) (λ k l. let c = limits-columns k l in pair-length (getD (s .lower) k (pos 0)) (getD (s .upper) k (pos 0)) (c .0) (c .1))
+
+  -- six bytes for each component, and byte 10
+  pub time-length : length (line (timeOf s)) ≡ 6 * depthOf s + 1
+  unfolding timeOf part
+  time-length = line-length (λ k. getD (s .time) (0 + k) (pos 0)) (depthOf s) time-columns
+
+  -- as many for each dependence
+  pub dependences-length : length (flatMap line (dependencesOf s)) ≡ (6 * depthOf s + 1) * countOf s
+  unfolding dependencesOf part
+  dependences-length =
+      flatMap-length line (dependenceAt (s .dependences) (depthOf s)) (6 * depthOf s + 1) (countOf s)
+      (λ i l. line-length (λ k. getD (s .dependences) (i * maxDepth + k) (pos 0)) (depthOf s) (dependence-columns i l))
+
+  -- the boundary value and a weight for each dependence
+  pub last-length : length (line (s .boundary ∷ weightsOf s)) ≡ 6 * (countOf s + 1) + 1
+  unfolding weightsOf part
+  last-length =
+      ap length (sym (line-cons (s .boundary) (weightsOf s))) ∙ length-append (fieldOf (s .boundary)) (line (weightsOf s))
+      ∙ omega (arith, field-length (s .boundary) boundary-columns, line-length (λ i. getD (s .weights) (0 + i) (pos 0)) (countOf s) weight-columns)
+
+  -- the length of the text, by the numbers of loops and dependences
+  pub text-length : length (textOf s) ≡ 19 + 13 * depthOf s + (6 * depthOf s + 1) * (countOf s + 1) + (6 * (countOf s + 1) + 1)
+  text-length =
+      let a = line (shapeLine s) in
+      let b = flatMap line (limitLines s) in
+      let c = line (timeOf s) in
+      let d = flatMap line (dependencesOf s) in
+      let e = line (s .boundary ∷ weightsOf s) in
+      let w : (6 * depthOf s + 1) * (countOf s + 1) ≡ (6 * depthOf s + 1) * countOf s + (6 * depthOf s + 1) = ap (λ k. (6 * depthOf s + 1) * k) (add-one (countOf s)) ∙ mul-suc (6 * depthOf s + 1) (countOf s) in
+      ap length (sym (text-parts s))
+      ∙ omega (arith, length-append (((a ++ b) ++ c) ++ d) e, length-append ((a ++ b) ++ c) d, length-append (a ++ b) c, length-append a b, shape-length, limits-length, time-length, dependences-length, last-length, w)
+
+  -- the longest text of an accepted nest has 284 bytes
+  pub text-most : length (textOf s) ≤ 284
+  text-most =
+      let p : 6 * depthOf s + 1 ≤ 19 = omega (arith, h .depth-few) in
+      let q : countOf s + 1 ≤ 9 = omega (arith, h .count-few) in
+      omega (arith, text-length, mul-le-mul p q, h .depth-few, h .count-few)

@@ -1,0 +1,87 @@
+-- `write` answers as the definitions say, and leaves the text, or a refused call's buffer as it was.
+use borrow.Author.Needs.{needs}
+use mathlib.Core.Path.{_≡_, sym, ap, ap₂, _∙_}
+use Prim.Native.Nat.{_+_, _*_}
+use native.Mathlib.Omega.{arith}
+use lib.ListN.{length}
+use Rattle.integers.specs.Bounds.{told}
+use Rattle.nest.specs.Nest.{toℕ, depthOf, countOf}
+use Rattle.nest.specs.Refusals.{refusal}
+use Rattle.nest_text.specs.Text.{textOf}
+use Rattle.nest.proofs.Spans.{spans}
+use Rattle.nest_text.proofs.TextLength.{text-length}
+use Rattle.nest_text.proofs.WriteAnswers.{refused-nest, refused-short, text-written}
+use Rattle.nest_text.proofs.write.Statement.{statement}
+use Rattle.nest_text.proofs.write.Tie as tie
+
+check-requires : tie.Need-check-requires
+check-requires c κs = search needs
+
+returns : tie.Need-returns
+returns c = refused-nest (c .before .before .before .args .s) (c .before .before .before .args .out .now) (c .before .check .result) (c .before .check .ensures) (c .if1 .taken)
+
+to-size-requires : tie.Need-to-size-requires
+to-size-requires c κs = search needs
+
+to-size-requires-2 : tie.Need-to-size-requires-2
+to-size-requires-2 c κs = search needs
+
+-- the nest is accepted
+accepted : (c : tie.Else1) → refusal (c .before .before .before .args .s) ≡ 0
+accepted c = sym (c .before .check .ensures) ∙ c .if1 .left
+
+-- the numbers of loops and of dependences
+loops : (c : tie.After-to-size2) → c .before .before .to-size .result ≡ depthOf (c .before .before .before .before .before .before .before .args .s)
+loops c =
+    let d = c .before .before in
+    d .to-size .ensures ∙ ap toℕ (told (d .before .before .before .before .before .args .s .depth) (d .before .struct-told .given .0 .1))
+
+dependences : (c : tie.After-to-size2) → c .to-size2 .result ≡ countOf (c .before .before .before .before .before .before .before .args .s)
+dependences c = c .to-size2 .ensures ∙ ap toℕ (told (c .before .before .before .before .before .before .before .args .s .count) (c .before .struct-told2 .given .1 .0 .1))
+
+text-length-requires : tie.Need-text-length-requires
+text-length-requires c κs =
+    let h = spans (c .before .before .before .before .before .before .before .args .s) (accepted (c .before .before .before .before)) in
+    (omega (arith, loops c, h .depth-few), omega (arith, dependences c, h .count-few))
+
+-- the length that is computed is the text's
+long : (c : tie.After-text-length) → c .text-length .result ≡ length (textOf (c .before .before .before .before .before .before .before .before .args .s))
+long c =
+    let d = c .before in
+    let s = d .before .before .before .before .before .before .before .args .s in
+    c .text-length .ensures ∙ ap₂ (λ n m. 19 + 13 * n + (6 * n + 1) * (m + 1) + (6 * (m + 1) + 1)) (loops d) (dependences d)
+    ∙ sym (text-length s (spans s (accepted (d .before .before .before .before))))
+
+returns-2 : tie.Need-returns-2
+returns-2 c =
+    let d = c .before in
+    let a = d .before .before .before .before .before .before .before .before .args in
+    refused-short (a .s) (a .out .now) (accepted (d .before .before .before .before .before)) (omega (arith, long d))
+
+put-text-requires : tie.Need-put-text-requires
+put-text-requires c κs =
+    let d = c .before .before in
+    (accepted (d .before .before .before .before .before), (loops (d .before), (dependences (d .before), omega (arith, long d))))
+
+same-length : tie.Need-same-length
+same-length c = search needs
+
+returns-3 : tie.Need-returns-3
+returns-3 c =
+    let d = c .before .before .before .before .before in
+    let a = d .before .before .before .before .before .before .before .before .args in
+    text-written (a .s) (a .out .now) (accepted (d .before .before .before .before .before)) (d .text-length .result) (c .before .before .put-text .last .1 .1 .1 .0) (long d) (omega (arith, long d)) (c .before .before .put-text .ensures .bytes)
+
+pub write-spec : {M : Type 1} → statement M
+write-spec =
+    tie.close
+    (tie.spec
+    check-requires
+    returns
+    to-size-requires
+    to-size-requires-2
+    text-length-requires
+    returns-2
+    put-text-requires
+    same-length
+    returns-3)

@@ -1,0 +1,178 @@
+-- `put_text` writes the text of an accepted nest: after each call the lines so far stand in the buffer.
+use borrow.Author.Needs.{needs}
+use mathlib.Core.Path.{_≡_, sym, ap, ap₂, subst, _∙_}
+use mathlib.Core.List.{List, [], _∷_, _++_, flatMap}
+use Prim.Native.Nat.{_+_, _*_, _≤_}
+use native.Mathlib.Nat.{mul-suc}
+use native.Mathlib.Numerals.{add-one}
+use native.Mathlib.Omega.{arith}
+use lib.IntN.{ℤ}
+use lib.ListN.{length, length-append}
+use mir.Syntax.{w64}
+use mir.Val.{toZ, ofZ}
+use Rattle.integers.specs.Bounds.{told}
+use Rattle.integers.specs.Lists.{tab}
+use Rattle.nest.specs.Nest.{part, depthOf, countOf, timeOf, dependenceAt, dependencesOf, weightsOf}
+use Rattle.nest_text.specs.Text.{line}
+use Rattle.nest_text.specs.Stored.{Stored, InColumns, EachInColumns}
+use Rattle.nest_text.proofs.WriteLaws.{stored-more, stored-as, stored-length}
+use Rattle.nest.proofs.Spans.{Spans, spans}
+use Rattle.nest_text.proofs.TextLength.{shapeLine, limitLine, limitLines, text-parts, text-length, shape-columns, limits-columns, time-columns, dependence-columns, boundary-columns, weight-columns, shape-length, limits-length, time-length, dependences-length}
+use Rattle.nest_text.proofs.writer.put_text.Statement.{statement}
+use Rattle.nest_text.proofs.writer.put_text.Tie as tie
+
+-- what the nest has, since it is accepted
+have : (c : tie.Start) → Spans (c .args .s)
+have c = spans (c .args .s) (c .pre .0)
+
+-- how many places the time vector's array has
+time-array : (c : tie.Start) → length (c .args .s .time) ≡ 3
+time-array c = search needs
+
+-- the numbers of line 1, as the machine holds them
+abbrev shape : tie.After-struct-told → List ℤ
+shape c = let s = c .before .before .args .s in toZ w64 (ofZ w64 (s .depth)) ∷ toZ w64 (ofZ w64 (s .count)) ∷ toZ w64 (ofZ w64 (s .cube)) ∷ []
+
+shape-is : (c : tie.After-struct-told) → shape c ≡ shapeLine (c .before .before .args .s)
+shape-is c =
+    let s = c .before .before .args .s in
+    ap₂ (λ (a b : ℤ). a ∷ b ∷ toZ w64 (ofZ w64 (s .cube)) ∷ []) (told (s .depth) (c .struct-told .given .0 .1)) (told (s .count) (c .struct-told .given .1 .0 .1))
+    ∙ ap (λ (z : ℤ). s .depth ∷ s .count ∷ z ∷ []) (told (s .cube) (c .struct-told .given .1 .1 .0 .1))
+
+-- ---- the buffer after each call
+one : (c : tie.After-put-line) → let a = c .before .before .before .before .before .args in Stored (a .out .now) 0 (line (shapeLine (a .s))) (c .put-line .last .0) (c .put-line .result)
+unfolding part tab
+one c = stored-as (ap line (shape-is (c .before .before .before))) (c .put-line .ensures)
+
+two : (c : tie.After-put-limits) → let a = c .before .before .before .before .before .before .before .before .before .before .before .args in Stored (a .out .now) 0 (line (shapeLine (a .s)) ++ flatMap line (limitLines (a .s))) (c .put-limits .last .0) (c .put-limits .result)
+two c =
+    let d = c .before .before .before .before .before .before .before .before .before .before .before in
+    stored-more (one (c .before .before .before .before .before .before)) (stored-as (ap (λ n. flatMap line (tab (limitLine (d .args .s)) n)) (d .pre .1 .0)) (c .put-limits .ensures))
+
+three : (c : tie.After-put-line2) → let a = c .before .before .before .before .before .before .before .before .before .before .before .before .before .before .before .before .before .args in Stored (a .out .now) 0 (line (shapeLine (a .s)) ++ flatMap line (limitLines (a .s)) ++ line (timeOf (a .s))) (c .put-line2 .last .0) (c .put-line2 .result)
+unfolding timeOf
+three c =
+    let d = c .before .before .before .before .before .before .before .before .before .before .before .before .before .before .before .before .before in
+    stored-more (two (c .before .before .before .before .before .before)) (stored-as (ap (λ n. line (part (d .args .s .time) 0 n)) (d .pre .1 .0)) (c .put-line2 .ensures))
+
+four : (c : tie.After-put-dependences) → let a = c .before .before .before .before .before .before .before .before .before .before .before .before .before .before .before .before .before .before .before .before .before .before .args in
+    Stored (a .out .now) 0 (line (shapeLine (a .s)) ++ flatMap line (limitLines (a .s)) ++ line (timeOf (a .s)) ++ flatMap line (dependencesOf (a .s))) (c .put-dependences .last .0) (c .put-dependences .result)
+unfolding dependencesOf
+four c =
+    let d = c .before .before .before .before .before .before .before .before .before .before .before .before .before .before .before .before .before .before .before .before .before .before in
+    stored-more (three (c .before .before .before .before .before))
+    (stored-as (ap₂ (λ n m. flatMap line (tab (dependenceAt (d .args .s .dependences) n) m)) (d .pre .1 .0) (d .pre .1 .1 .0)) (c .put-dependences .ensures))
+
+-- ---- the places where the parts end, and the room
+one-end : (c : tie.After-put-line) → c .put-line .result ≡ 19
+one-end c = let a = c .before .before .before .before .before in omega (arith, one c .ends, shape-length (a .args .s) (have a))
+
+two-end : (c : tie.After-put-limits) → c .put-limits .result ≡ 19 + 13 * depthOf (c .before .before .before .before .before .before .before .before .before .before .before .args .s)
+two-end c =
+    let a = c .before .before .before .before .before .before .before .before .before .before .before in
+    let s = a .args .s in
+    omega (arith, two c .ends, length-append (line (shapeLine s)) (flatMap line (limitLines s)), shape-length s (have a), limits-length s (have a))
+
+three-end : (c : tie.After-put-line2) → let s = c .before .before .before .before .before .before .before .before .before .before .before .before .before .before .before .before .before .args .s in c .put-line2 .result ≡ 19 + 13 * depthOf s + (6 * depthOf s + 1)
+three-end c =
+    let a = c .before .before .before .before .before .before .before .before .before .before .before .before .before .before .before .before .before in
+    let s = a .args .s in
+    let h = line (shapeLine s) in
+    let l = flatMap line (limitLines s) in
+    omega (arith, three c .ends, length-append (h ++ l) (line (timeOf s)), length-append h l, shape-length s (have a), limits-length s (have a), time-length s (have a))
+
+four-end : (c : tie.After-put-dependences) → let s = c .before .before .before .before .before .before .before .before .before .before .before .before .before .before .before .before .before .before .before .before .before .before .args .s in c .put-dependences .result ≡ 19 + 13 * depthOf s + (6 * depthOf s + 1) + (6 * depthOf s + 1) * countOf s
+four-end c =
+    let a = c .before .before .before .before .before .before .before .before .before .before .before .before .before .before .before .before .before .before .before .before .before .before in
+    let s = a .args .s in
+    let h = line (shapeLine s) in
+    let l = flatMap line (limitLines s) in
+    let d = flatMap line (dependencesOf s) in
+    omega (arith, four c .ends, length-append (h ++ l ++ line (timeOf s)) d, length-append (h ++ l) (line (timeOf s)), length-append h l, shape-length s (have a), limits-length s (have a), time-length s (have a), dependences-length s (have a))
+
+-- the buffer has room for all of them
+room : (a : tie.Start) → let s = a .args .s in 19 + 13 * depthOf s + (6 * depthOf s + 1) + (6 * depthOf s + 1) * countOf s + (6 * (countOf s + 1) + 1) ≤ length (a .args .out .now)
+room a =
+    let s = a .args .s in
+    let w : (6 * depthOf s + 1) * (countOf s + 1) ≡ (6 * depthOf s + 1) * countOf s + (6 * depthOf s + 1) = ap (λ k. (6 * depthOf s + 1) * k) (add-one (countOf s)) ∙ mul-suc (6 * depthOf s + 1) (countOf s) in
+    omega (arith, a .pre .1 .1 .1, text-length s (have a), w)
+
+slice-aggregate-put-line : tie.Need-slice-aggregate-put-line
+slice-aggregate-put-line c = search needs
+
+put-line-requires : tie.Need-put-line-requires
+put-line-requires c κs =
+    let a = c .before .before .before .before in
+    (omega (arith, room a), (omega arith, subst (λ l. EachInColumns l 0 3) (sym (shape-is (c .before .before))) (shape-columns (a .args .s) (have a))))
+
+put-limits-requires : tie.Need-put-limits-requires
+put-limits-requires c κs =
+    let d = c .before .before .before .before .before in
+    let a = d .before .before .before .before .before in
+    (omega (arith, room a, one-end d, stored-length (one d), a .pre .1 .0), (omega (arith, a .pre .1 .0, have a .depth-few), λ k l. limits-columns (a .args .s) (have a) k (omega (arith, a .pre .1 .0))))
+
+slice-aggregate-put-line-2 : tie.Need-slice-aggregate-put-line-2
+slice-aggregate-put-line-2 c = search needs
+
+put-line-requires-2 : tie.Need-put-line-requires-2
+put-line-requires-2 c κs =
+    let d = c .before .before .before .before .before in
+    let a = d .before .before .before .before .before .before .before .before .before .before .before in (
+      omega (arith, room a, two-end d, stored-length (two d), a .pre .1 .0),
+      (omega (arith, a .pre .1 .0, have a .depth-few, time-array a), λ k l. time-columns (a .args .s) (have a) k (omega (arith, a .pre .1 .0))),
+    )
+
+put-dependences-requires : tie.Need-put-dependences-requires
+put-dependences-requires c κs =
+    let d = c .before .before .before .before in
+    let a = d .before .before .before .before .before .before .before .before .before .before .before .before .before .before .before .before .before in
+    let w : (6 * a .args .n + 1) * a .args .m ≡ (6 * depthOf (a .args .s) + 1) * countOf (a .args .s) = ap₂ (λ n m. (6 * n + 1) * m) (a .pre .1 .0) (a .pre .1 .1 .0) in (
+      omega (arith, room a, three-end d, stored-length (three d), w),
+      (
+        omega (arith, a .pre .1 .0, have a .depth-few),
+        (omega (arith, a .pre .1 .1 .0, have a .count-few), λ i l k m. dependence-columns (a .args .s) (have a) i (omega (arith, a .pre .1 .1 .0)) k (omega (arith, a .pre .1 .0))),
+      ),
+    )
+
+-- the boundary value, as the machine holds it
+boundary-is : (c : tie.After-struct-told2) → let s = c .before .before .before .before .before .before .before .before .before .before .before .before .before .before .before .before .before .before .before .before .before .before .before .before .before .before .before .args .s in toZ w64 (ofZ w64 (s .boundary)) ≡ s .boundary
+boundary-is c = told (c .before .before .before .before .before .before .before .before .before .before .before .before .before .before .before .before .before .before .before .before .before .before .before .before .before .before .before .args .s .boundary) (c .struct-told2 .given .1 .1 .1 .1 .1 .1 .1 .0 .1)
+
+put-last-requires : tie.Need-put-last-requires
+put-last-requires c κs =
+    let d = c .before .before .before .before .before in
+    let a = d .before .before .before .before .before .before .before .before .before .before .before .before .before .before .before .before .before .before .before .before .before .before in
+    let s = a .args .s in (
+      omega (arith, room a, four-end d, stored-length (four d), a .pre .1 .1 .0),
+      (
+        omega (arith, a .pre .1 .1 .0, have a .count-few),
+        (subst InColumns (sym (boundary-is c)) (boundary-columns s (have a)), λ i l. weight-columns s (have a) i (omega (arith, a .pre .1 .1 .0))),
+      ),
+    )
+
+same-length : tie.Need-same-length
+same-length c = search needs
+
+returns : tie.Need-returns
+unfolding weightsOf
+returns c =
+    let d = c .before .before in
+    let a = d .before .before .before .before .before .before .before .before .before .before .before .before .before .before .before .before .before .before .before .before .before .before .before .before .before .before .before .before in
+    let s = a .args .s in
+    let e = ap₂ (λ z m. line (z ∷ part (s .weights) 0 m)) (boundary-is (d .before)) (a .pre .1 .1 .0) in
+    let f = stored-as (text-parts s) (stored-more (four (d .before .before .before .before .before .before)) (stored-as e (d .put-last .ensures))) in
+    record { bytes = f .bytes; ends = omega arith }
+
+pub put-text-spec : {M : Type 1} → statement M
+put-text-spec =
+    tie.close
+    (tie.spec
+    slice-aggregate-put-line
+    put-line-requires
+    put-limits-requires
+    slice-aggregate-put-line-2
+    put-line-requires-2
+    put-dependences-requires
+    put-last-requires
+    same-length
+    returns)

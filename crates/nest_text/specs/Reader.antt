@@ -1,0 +1,125 @@
+-- The steps of the reader: a line as the code holds it, and the nest as it is filled line by line.
+-- Assumes nothing.
+use mathlib.Core.Bool.{true, false}
+use mathlib.Core.List.{List, [], _++_, map, flatMap}
+use Prim.Native.Nat.{ℕ, _+_, _*_, _-_}
+use lib.Dec.{eqb, leb, ltb}
+use lib.IntN.{ℤ, pos}
+use lib.ListN.{getD, set, take, drop, replicate}
+use Rattle.nest.specs.declared.LoopNest.{LoopNest}
+use Rattle.nest.specs.Nest.{padded, emptyNest, maxDepth, maxDependences}
+use Rattle.nest.specs.Refusals.{firstMet, headerOrder, orElse}
+use Rattle.nest_text.specs.declared.Reading.{Reading}
+use Rattle.nest_text.specs.declared.reader.Line.{Line}
+use Rattle.nest_text.specs.declared.reader.Body.{Body}
+use Rattle.nest_text.specs.Fields.{Bytes}
+use Rattle.nest_text.specs.Text.{at, isLine, numbersOf, areLines, lineNumbers, headerWidth, widths, headerOf, nestFrom, malformedUnless}
+
+-- the most fields that a line has: the boundary value and the weights
+abbrev pub maxFields : ℕ
+maxFields = maxDependences + 1
+
+-- a line of k fields: whether it is in form, and then its numbers, with 0 in every other place
+unfoldable pub lineOf : ℕ → Bytes → Line
+lineOf k bs = elim (isLine k bs) [
+  | true ↦ record { ok = true; numbers = padded maxFields (numbersOf k bs) }
+  | false ↦ record { ok = false; numbers = replicate maxFields (pos 0) }
+]
+
+-- line 1's form; 2, 3, 4
+unfoldable pub headerRefusal : Bytes → ℕ
+headerRefusal bs = orElse (malformedUnless (isLine headerWidth bs)) (firstMet (headerOf bs) headerOrder)
+
+-- what is read of line 1; 0 in every place where it is refused
+unfoldable pub headerRead : Bytes → Reading
+headerRead bs = record { refusal = headerRefusal bs; nest = elim (eqb (headerRefusal bs) 0) [ true ↦ headerOf bs | false ↦ emptyNest ] }
+
+-- ---- the nest with one line more
+
+-- the limits of loop k
+unfoldable pub withLimitLine : LoopNest → ℕ → List ℤ → LoopNest
+withLimitLine s k row = record {
+  depth = s .depth;
+  count = s .count;
+  cube = s .cube;
+  lower = set (s .lower) k (at row 0);
+  upper = set (s .upper) k (at row 1);
+  time = s .time;
+  dependences = s .dependences;
+  boundary = s .boundary;
+  weights = s .weights;
+}
+
+-- the time vector
+unfoldable pub withTimeLine : LoopNest → List ℤ → LoopNest
+withTimeLine s row = record {
+  depth = s .depth;
+  count = s .count;
+  cube = s .cube;
+  lower = s .lower;
+  upper = s .upper;
+  time = take maxDepth row;
+  dependences = s .dependences;
+  boundary = s .boundary;
+  weights = s .weights;
+}
+
+-- the components of dependence i
+unfoldable pub withDependenceLine : LoopNest → ℕ → List ℤ → LoopNest
+withDependenceLine s i row = record {
+  depth = s .depth;
+  count = s .count;
+  cube = s .cube;
+  lower = s .lower;
+  upper = s .upper;
+  time = s .time;
+  dependences = take (i * maxDepth) (s .dependences) ++ (take maxDepth row ++ drop (i * maxDepth + maxDepth) (s .dependences));
+  boundary = s .boundary;
+  weights = s .weights;
+}
+
+-- the boundary value and the weights
+unfoldable pub withLastLine : LoopNest → List ℤ → LoopNest
+withLastLine s row = record {
+  depth = s .depth;
+  count = s .count;
+  cube = s .cube;
+  lower = s .lower;
+  upper = s .upper;
+  time = s .time;
+  dependences = s .dependences;
+  boundary = at row 0;
+  weights = take maxDependences (drop 1 row);
+}
+
+-- line i, counted from 0, of those behind line 1
+unfoldable pub withLine : ℕ → ℕ → LoopNest → ℕ → List ℤ → LoopNest
+withLine n m s i row = elim (ltb i n) [
+  | true ↦ withLimitLine s i row
+  | false ↦ elim (eqb i n) [
+    | true ↦ withTimeLine s row
+    | false ↦ elim (leb i (n + m)) [ true ↦ withDependenceLine s (i - (n + 1)) row | false ↦ withLastLine s row ]
+  ]
+]
+
+-- the nest of depth n with m dependences and cube dimension c of which these lines are read; 0 in every place of the others
+unfoldable pub filled : ℕ → ℕ → ℤ → List (List ℤ) → LoopNest
+filled n m c ls =
+    let last = getD ls (n + 1 + m) [] in record {
+      depth = pos n;
+      count = pos m;
+      cube = c;
+      lower = padded maxDepth (map (λ l. at l 0) (take n ls));
+      upper = padded maxDepth (map (λ l. at l 1) (take n ls));
+      time = padded maxDepth (getD ls n []);
+      dependences = padded (maxDepth * maxDependences) (flatMap (padded maxDepth) (take m (drop (n + 1) ls)));
+      boundary = at last 0;
+      weights = padded maxDependences (drop 1 last);
+    }
+
+-- the lines behind line 1: whether all are in form, and then their nest
+unfoldable pub bodyRead : ℕ → ℕ → ℤ → Bytes → Body
+bodyRead n m c bs = elim (areLines (widths n m) bs) [
+  | true ↦ record { ok = true; nest = nestFrom n m c (lineNumbers (widths n m) bs) }
+  | false ↦ record { ok = false; nest = emptyNest }
+]

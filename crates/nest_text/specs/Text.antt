@@ -1,0 +1,137 @@
+-- The text of a loop nest (document 01, "The sheet"): what is written for a nest, and what a text is read as, with its refusals in the document's order.
+-- Assumes nothing.
+use mathlib.Core.Bool.{Bool, true, false, not, _&&_}
+use mathlib.Core.List.{List, [], _∷_, _++_, map, flatMap}
+use Prim.Native.Nat.{ℕ, zero, suc, _+_, _*_}
+use lib.Dec.{eqb, leb}
+use lib.IntN.{ℤ, pos}
+use lib.ListN.{length, getD, take, drop, replicate}
+use Rattle.integers.specs.Lists.{any, tab}
+use Rattle.nest.specs.declared.LoopNest.{LoopNest}
+use Rattle.nest.specs.Nest.{Limit, toℕ, depthOf, countOf, limitsOf, timeOf, dependencesOf, weightsOf, nestOf, emptyNest, maxDepth, maxDependences}
+use Rattle.nest.specs.Refusals.{refusal, firstMet, headerOrder, bodyOrder, orElse, shortBuffer}
+use Rattle.nest_text.specs.declared.fields.Field.{Field}
+use Rattle.nest_text.specs.declared.fields.Field.the-variants.{Number, Malformed}
+use Rattle.nest_text.specs.Fields.{Bytes, columns, newline, fieldOf, readOf}
+
+-- ---- writing
+
+-- each number in six columns, then byte 10
+unfoldable pub line : List ℤ → Bytes
+line zs = flatMap fieldOf zs ++ (newline ∷ [])
+
+-- the numbers of the lines of a nest
+unfoldable pub linesOf : LoopNest → List (List ℤ)
+linesOf s =
+    (s .depth ∷ s .count ∷ s .cube ∷ [])
+    ∷ (map (λ l. l .lower ∷ l .upper ∷ []) (limitsOf s) ++ (timeOf s ∷ (dependencesOf s ++ ((s .boundary ∷ weightsOf s) ∷ []))))
+
+unfoldable pub textOf : LoopNest → Bytes
+textOf s = flatMap line (linesOf s)
+
+-- ---- reading
+
+abbrev pub isMalformed : Field → Bool
+isMalformed (Number z) = false
+isMalformed Malformed = true
+
+abbrev pub numberOf : Field → ℤ
+numberOf (Number z) = z
+numberOf Malformed = pos 0
+
+-- field i of a line: its six columns, read as a number
+abbrev pub fieldAt : Bytes → ℕ → Field
+fieldAt bs i = readOf (take columns (drop (columns * i) bs))
+
+-- the bytes begin with a line of k fields: each is a number, and byte 10 follows
+unfoldable pub isLine : ℕ → Bytes → Bool
+isLine k bs = not (any isMalformed (tab (fieldAt bs) k)) && eqb (getD bs (columns * k) 0) newline
+
+-- the numbers of that line
+unfoldable pub numbersOf : ℕ → Bytes → List ℤ
+numbersOf k bs = tab (λ i. numberOf (fieldAt bs i)) k
+
+-- the bytes behind it
+abbrev pub behind : ℕ → Bytes → Bytes
+behind k bs = drop (columns * k + 1) bs
+
+-- lines with these numbers of fields follow one another, and nothing follows the last
+unfoldable pub areLines : List ℕ → Bytes → Bool
+areLines [] bs = eqb (length bs) 0
+areLines (k ∷ ks) bs = elim (isLine k bs) [ true ↦ areLines ks (behind k bs) | false ↦ false ]
+
+-- the numbers of those lines
+unfoldable pub lineNumbers : List ℕ → Bytes → List (List ℤ)
+lineNumbers [] bs = []
+lineNumbers (k ∷ ks) bs = numbersOf k bs ∷ lineNumbers ks (behind k bs)
+
+-- line 1: depth, number of dependences, cube dimension
+abbrev pub headerWidth : ℕ
+headerWidth = 3
+
+-- the numbers of fields of the lines behind line 1: n lines of limits, the time vector, m dependences, boundary value and weights
+unfoldable pub widths : ℕ → ℕ → List ℕ
+widths n m = replicate n 2 ++ (n ∷ (replicate m n ++ ((1 + m) ∷ [])))
+
+abbrev pub at : List ℤ → ℕ → ℤ
+at zs i = getD zs i (pos 0)
+
+-- the numbers of line 1, with 0 in every other place
+unfoldable pub headed : List ℤ → LoopNest
+headed zs = record {
+  depth = at zs 0;
+  count = at zs 1;
+  cube = at zs 2;
+  lower = replicate maxDepth (pos 0);
+  upper = replicate maxDepth (pos 0);
+  time = replicate maxDepth (pos 0);
+  dependences = replicate (maxDepth * maxDependences) (pos 0);
+  boundary = pos 0;
+  weights = replicate maxDependences (pos 0);
+}
+
+-- the nest of depth n with m dependences and cube dimension c whose lines behind line 1 hold these numbers
+unfoldable pub nestFrom : ℕ → ℕ → ℤ → List (List ℤ) → LoopNest
+nestFrom n m c ls =
+    let last = getD ls (n + 1 + m) [] in
+    nestOf c (map (λ l. record { lower = at l 0; upper = at l 1 }) (take n ls)) (getD ls n []) (take m (drop (n + 1) ls)) (at last 0) (drop 1 last)
+
+-- what the text's line 1 says, and what all of it says, where it is in form
+unfoldable pub headerOf : Bytes → LoopNest
+headerOf bs = headed (numbersOf headerWidth bs)
+
+unfoldable pub widthsOf : Bytes → List ℕ
+widthsOf bs = widths (depthOf (headerOf bs)) (countOf (headerOf bs))
+
+unfoldable pub bodyOf : Bytes → LoopNest
+bodyOf bs = nestFrom (depthOf (headerOf bs)) (countOf (headerOf bs)) (headerOf bs .cube) (lineNumbers (widthsOf bs) (behind headerWidth bs))
+
+-- 1, where the form is not kept
+abbrev pub malformedUnless : Bool → ℕ
+malformedUnless true = 0
+malformedUnless false = 1
+
+-- line 1's form; 2, 3, 4; the form of the other lines; 5 to 13
+unfoldable pub readRefusal : Bytes → ℕ
+readRefusal bs =
+    orElse (malformedUnless (isLine headerWidth bs))
+    (orElse (firstMet (headerOf bs) headerOrder)
+    (orElse (malformedUnless (areLines (widthsOf bs) (behind headerWidth bs))) (firstMet (bodyOf bs) bodyOrder)))
+
+-- the nest that is read; 0 in every place where the text is refused
+unfoldable pub readNest : Bytes → LoopNest
+readNest bs = elim (eqb (readRefusal bs) 0) [ true ↦ bodyOf bs | false ↦ emptyNest ]
+
+-- ---- writing into a buffer of a length
+
+-- 2 to 13, then 14 for a buffer shorter than the text
+unfoldable pub writeRefusal : LoopNest → ℕ → ℕ
+writeRefusal s room = orElse (refusal s) (shortBuffer (length (textOf s)) room)
+
+-- how many bytes are written: none where the call is refused
+unfoldable pub writtenLength : LoopNest → ℕ → ℕ
+writtenLength s room = elim (eqb (writeRefusal s room) 0) [ true ↦ length (textOf s) | false ↦ 0 ]
+
+-- what the buffer then holds: the text and what stood behind it, or all that it held before
+unfoldable pub written : LoopNest → Bytes → Bytes
+written s old = elim (eqb (writeRefusal s (length old)) 0) [ true ↦ textOf s ++ drop (length (textOf s)) old | false ↦ old ]

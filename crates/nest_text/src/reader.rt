@@ -1,0 +1,209 @@
+// The lines of a loop nest's text, read into a nest.
+use crate::COLUMNS;
+use crate::HEADER_FIELDS;
+use crate::MALFORMED_TEXT;
+use crate::NEWLINE;
+use crate::Reading;
+use crate::fields;
+use crate::fields::Field;
+use crate::refused;
+use nest::LoopNest;
+ghost use mathlib.Core.Path.{_≡_};
+ghost use Prim.Native.Nat.{_+_, _<_, _≤_};
+ghost use lib.IntN.{pos};
+ghost use lib.ListN.{length, take, getD, replicate};
+ghost use mathlib.Core.List.{[]};
+ghost use mathlib.Core.Bool.{false};
+ghost use Rattle.nest.specs.Nest.{emptyNest, maxDepth, maxDependences};
+ghost use Rattle.nest_text.specs.Text.{widths};
+ghost use Rattle.nest_text.specs.Reader.{maxFields, lineOf, headerRead, withTimeLine, withDependenceLine, withLastLine, withLine, filled, bodyRead};
+
+// A line of numbers: whether it is in form, and then its numbers, with 0 in every place that has no field.
+pub struct Line {
+    pub ok: bool,
+    pub numbers: [i64; Line::MAX_FIELDS],
+}
+
+impl Line {
+    // the boundary value and the weights
+    pub const MAX_FIELDS: usize = LoopNest::MAX_DEPENDENCES + 1;
+}
+
+// The lines behind line 1: whether all are in form, and then their nest.
+pub struct Body {
+    pub ok: bool,
+    pub nest: LoopNest,
+}
+
+// A line that is not in form.
+pub fn no_line() -> Line
+    ensures { λ r. ⌜ r ≡ record { ok = false; numbers = replicate maxFields (pos 0) } ⌝ }
+{
+    Line {
+        ok: false,
+        numbers: [0; Line::MAX_FIELDS],
+    }
+}
+
+// A body that is not in form.
+pub fn no_body() -> Body
+    ensures { λ r. ⌜ r ≡ record { ok = false; nest = emptyNest } ⌝ }
+{
+    Body {
+        ok: false,
+        nest: LoopNest::empty(),
+    }
+}
+
+// The line of k fields with which the text begins. Each field is read as a part of the line.
+pub fn read_line(text: &[u8], k: usize) -> Line
+    requires { ⌜ k ≤ maxFields ⌝ }
+    ensures { λ r. ⌜ r ≡ lineOf k (now (text .entry)) ⌝ }
+{
+    let end = COLUMNS * k;
+    if text.len() <= end {
+        return no_line();
+    }
+    if text[end] != NEWLINE {
+        return no_line();
+    }
+    let line = &text[..end];
+    let mut numbers = [0i64; Line::MAX_FIELDS];
+    for i in 0..k {
+        let Field::Number(z) = fields::field_at(line, COLUMNS * i) else {
+            return no_line();
+        };
+        numbers[i] = z;
+    }
+    Line {
+        ok: true,
+        numbers: numbers,
+    }
+}
+
+// Line 1: the number of its first refusal, 1 to 4, with a nest of zeros, or 0 with its numbers in a nest that is else of zeros.
+pub fn read_header(text: &[u8]) -> Reading
+    ensures { λ r. ⌜ r ≡ headerRead (now (text .entry)) ⌝ }
+{
+    let line = read_line(text, HEADER_FIELDS);
+    if !line.ok {
+        return refused(MALFORMED_TEXT);
+    }
+    let row = line.numbers;
+    let header = LoopNest::empty().with_shape(row[0], row[1], row[2]);
+    let refusal = nest::check_header(header);
+    if refusal != 0 {
+        return refused(refusal);
+    }
+    Reading {
+        refusal: 0,
+        nest: header,
+    }
+}
+
+// Fills a part of an array with a row's first numbers.
+pub fn copy(out: &mut [i64], row: &[i64])
+    requires { ⌜ length (now out) ≤ length (now row) ⌝ }
+    ensures { λ _. ⌜ now (out .exit) ≡ take (length (now (out .entry))) (now (row .entry)) ⌝ }
+{
+    for k in 0..out.len() {
+        out[k] = row[k];
+    }
+}
+
+// The nest with its time vector.
+pub fn with_time_line(s: LoopNest, row: [i64; Line::MAX_FIELDS]) -> LoopNest
+    ensures { λ r. ⌜ r ≡ withTimeLine s row ⌝ }
+{
+    let mut time = s.time;
+    copy(&mut time, &row);
+    let mut t = s;
+    t.time = time;
+    t
+}
+
+// The nest with the components of dependence i.
+pub fn with_dependence_line(s: LoopNest, i: usize, row: [i64; Line::MAX_FIELDS]) -> LoopNest
+    requires { ⌜ i < maxDependences ⌝ }
+    ensures { λ r. ⌜ r ≡ withDependenceLine s i row ⌝ }
+{
+    let mut dependences = s.dependences;
+    let from = i * LoopNest::MAX_DEPTH;
+    let to = from + LoopNest::MAX_DEPTH;
+    copy(&mut dependences[from..to], &row);
+    let mut t = s;
+    t.dependences = dependences;
+    t
+}
+
+// The nest with its boundary value and weights.
+pub fn with_last_line(s: LoopNest, row: [i64; Line::MAX_FIELDS]) -> LoopNest
+    ensures { λ r. ⌜ r ≡ withLastLine s row ⌝ }
+{
+    let mut weights = s.weights;
+    copy(&mut weights, &row[1..]);
+    let mut t = s;
+    t.boundary = row[0];
+    t.weights = weights;
+    t
+}
+
+// The nest of n loops and m dependences with the numbers of line i, counted from 0, of those behind line 1.
+pub fn with_line(
+    s: LoopNest,
+    n: usize,
+    m: usize,
+    i: usize,
+    row: [i64; Line::MAX_FIELDS],
+) -> LoopNest
+    requires { ⌜ (n ≤ maxDepth) × (m ≤ maxDependences) ⌝ }
+    ensures { λ r. ⌜ r ≡ withLine n m s i row ⌝ }
+{
+    if i < n {
+        return s.with_limits(i, row[0], row[1]);
+    }
+    if i == n {
+        return with_time_line(s, row);
+    }
+    if i <= n + m {
+        return with_dependence_line(s, i - (n + 1), row);
+    }
+    with_last_line(s, row)
+}
+
+// How many fields line i has, counted from 0 behind line 1.
+pub fn width(n: usize, m: usize, i: usize) -> usize
+    requires { ⌜ (n ≤ maxDepth) × (m ≤ maxDependences) × (i < n + 1 + m + 1) ⌝ }
+    ensures { λ r. ⌜ (r ≡ getD (widths n m) i 0) × (r ≤ maxFields) ⌝ }
+{
+    if i < n {
+        2
+    } else if i <= n + m {
+        n
+    } else {
+        1 + m
+    }
+}
+
+// The lines behind line 1 of a nest of n loops and m dependences, put into the nest that line 1 says.
+pub fn read_body(text: &[u8], header: LoopNest, n: usize, m: usize) -> Body
+    requires { ⌜ (n ≤ maxDepth) × (m ≤ maxDependences) × (header ≡ filled n m (header .cube) []) ⌝ }
+    ensures { λ r. ⌜ r ≡ bodyRead n m (header .cube) (now (text .entry)) ⌝ }
+{
+    let mut s = header;
+    let mut at = 0;
+    for i in 0..n + 1 + m + 1 {
+        let k = width(n, m, i);
+        let line = read_line(&text[at..], k);
+        if !line.ok {
+            return no_body();
+        }
+        let row = line.numbers;
+        s = with_line(s, n, m, i, row);
+        at = at + (COLUMNS * k + 1);
+    }
+    if at != text.len() {
+        return no_body();
+    }
+    Body { ok: true, nest: s }
+}
