@@ -13,7 +13,7 @@ use lib.ListN.{length, getD}
 use lib.Signed.{_≤ℤ_, ltZ, ≤ℤ-refl}
 use Rattle.integers.specs.Linear.{ints, sizes, opp}
 use Rattle.integers.specs.Tests.{signed}
-use Rattle.integers.specs.Lists.{or-false, any-tab-each, length-tab, getD-tab}
+use Rattle.integers.specs.Lists.{any, tab, or-false, any-tab-each, length-tab, getD-tab}
 use Rattle.nest.specs.declared.LoopNest.{LoopNest}
 use Rattle.nest.specs.Nest.{Limit, toℕ, part, depthOf, countOf, limitAt, limitsOf, timeOf, dependenceAt, dependencesOf, weightsOf, maxDepth, maxDependences, maxCube, maxLimit, maxIterations, maxComponent, maxBoundary, maxWeight}
 use Rattle.nest.specs.Points.{extent, pointCount, pointsOf}
@@ -21,6 +21,7 @@ use Rattle.nest.specs.Refusals.{refusal, holds, outside, crossed, outOfS
 use Rattle.nest.proofs.Order.{point-count, index-of}
 use Rattle.nest.proofs.Conditions.{sized, uncrossed}
 use Rattle.nest.proofs.Refused.{accepted}
+use Rattle.nest.proofs.Vectors.{part-inside}
 
 module _ (s : LoopNest) (ok : refusal s ≡ 0) where
   pub depth-is : (1 ≤ depthOf s) × (depthOf s ≤ maxDepth) × (s .depth ≡ pos (depthOf s))
@@ -32,15 +33,25 @@ module _ (s : LoopNest) (ok : refusal s ≡ 0) where
   pub cube-is : (0 ≤ toℕ (s .cube)) × (toℕ (s .cube) ≤ maxCube) × (s .cube ≡ pos (toℕ (s .cube)))
   cube-is = sized 0 maxCube (s .cube) (unfold holds in accepted s ok badCube)
 
+  -- no loop's limits are crossed
+  pub none-crossed : any crossed (tab (limitAt (s .lower) (s .upper)) (depthOf s)) ≡ false
+  none-crossed = unfold holds limitsOf in accepted s ok badLimits
+
   pub not-crossed : (k : ℕ) → k < depthOf s → crossed (limit s k) ≡ false
-  not-crossed k h = any-tab-each crossed (limitAt (s .lower) (s .upper)) (depthOf s) k (unfold holds limitsOf in accepted s ok badLimits) h
+  not-crossed k h = any-tab-each crossed (limitAt (s .lower) (s .upper)) (depthOf s) k none-crossed h
+
+  -- the size of each component of a dependence
+  pub component-size : (i k : ℕ) → i < countOf s → k < depthOf s → natAbs (getD (s .dependences) (i * maxDepth + k) (pos 0)) ≤ maxComponent
+  component-size i k h l =
+      part-inside (s .dependences) (i * maxDepth) (depthOf s)
+      (any-tab-each outOfSpan (dependenceAt (s .dependences) (depthOf s)) (countOf s) i (unfold holds dependencesOf in accepted s ok badDependence) h) k l
 
   pub few-points : length (pointsOf s) ≤ maxIterations
   unfolding pointsOf holds
   few-points = let c = point-count (limitsOf s) in omega (arith, ltb-false maxIterations (pointCount (limitsOf s)) (accepted s ok tooManyPoints))
 
 -- a loop whose limits are not crossed has an index
-some-index : (l : Limit) → crossed l ≡ false → 0 < extent l
+pub some-index : (l : Limit) → crossed l ≡ false → 0 < extent l
 some-index l e = omega (arith, index-of l (l .lower) (≤ℤ-refl (l .lower)) (uncrossed (l .lower) (l .upper) e .order) .0)
 
 some-product : (ls : List Limit) (d : Limit) → ((k : ℕ) → k < length ls → crossed (getD ls k d) ≡ false) → 0 < pointCount ls

@@ -25,18 +25,19 @@ size-is (pos n) h = refl
 size-is (negsuc n) h = absurd (omega ints)
 
 -- one more than a number that is not negative
-one-more : (z : ℤ) → pos 0 ≤ℤ z → toℕ (z +ℤ pos 1) ≡ natAbs z + 1
+one-more : (z : ℤ) → pos 0 ≤ℤ z → toℕ (z +ℤ pos 1) ≡ toℕ z + 1
 unfolding toℕ
 one-more (pos n) h = refl
 one-more (negsuc n) h = absurd (omega ints)
 
--- its extent is the difference of its limits and one
-pub extent-is : (l u : ℤ) → l ≤ℤ u → extent (record { lower = l; upper = u }) ≡ natAbs (u -ℤ l) + 1
-unfolding extent
-extent-is l u h = one-more (u -ℤ l) (omega (ints, dif u l))
-
+-- its extent is the distance of its limits and one
 pub extent-distance : (l u : ℤ) → l ≤ℤ u → extent (record { lower = l; upper = u }) ≡ toℕ (u -ℤ l) + 1
-extent-distance l u h = extent-is l u h ∙ ap (λ n. n + 1) (size-is (u -ℤ l) (omega (ints, dif u l)))
+unfolding extent
+extent-distance l u h = one-more (u -ℤ l) (omega (ints, dif u l))
+
+-- the distance of two limits in span
+pub distance-within : (l u : ℤ) → natAbs l ≤ maxLimit → natAbs u ≤ maxLimit → l ≤ℤ u → toℕ (u -ℤ l) ≤ maxLimit + maxLimit
+distance-within l u h k o = let s = abs-sub u l k h in omega (arith, size-is (u -ℤ l) (omega (ints, dif u l)))
 
 -- ---- all loops
 
@@ -60,8 +61,7 @@ maxExtent = maxLimit + maxLimit + 1
 pub extent-within : (l u : ℤ) → crossed (record { lower = l; upper = u }) ≡ false → extent (record { lower = l; upper = u }) ≤ maxExtent
 extent-within l u e =
     let h = uncrossed l u e in
-    let k : natAbs (u -ℤ l) ≤ maxLimit + maxLimit = abs-sub u l (h .upper-size) (h .lower-size) in
-    omega (arith, extent-is l u (h .order))
+    omega (arith, distance-within l u (h .lower-size) (h .upper-size) (h .order), extent-distance l u (h .order))
 
 -- so k loops have at most that power
 pub count-within : (f : ℕ → Limit) (k : ℕ) → ((i : ℕ) → i < k → extent (f i) ≤ maxExtent) → pointCount (tab f k) ≤ maxExtent ^ k

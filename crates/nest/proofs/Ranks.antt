@@ -1,22 +1,26 @@
 -- How the rank of a point and the point of a rank are worked out, loop by loop from the outermost.
 -- Assumes nothing.
 use mathlib.Core.Path.{_≡_, refl, sym, ap, ap₂, subst, _∙_}
-use mathlib.Core.Bool.{Bool, true, false}
+use mathlib.Core.Bool.{true}
+use borrow.Author.Count.{below-more}
 use mathlib.Core.Logic.{⊎-elim}
 use mathlib.Core.List.{List, [], _∷_, _++_, append-assoc, append-nil}
-use Prim.Native.Nat.{ℕ, zero, suc, _+_, _*_, _/_, _%_, _<_, _≤_}
+use Prim.Native.Nat.{ℕ, zero, suc, _+_, _*_, _/_, _%_, _^_, _<_, _≤_}
 use native.Mathlib.Nat as NatL
 use native.Mathlib.Numerals.{add-one}
 use native.Mathlib.Omega.{arith}
 use lib.IntN.{ℤ, pos, _+ℤ_, _-ℤ_}
 use lib.ListN.{length, getD, set, drop, replicate, length-append}
 use lib.Seq.{drop-cons, drop-length}
-use lib.Signed.{_≤ℤ_}
-use Rattle.integers.specs.Lists.{tab, length-tab, getD-tab, tab-drop, tab-end}
+use lib.Signed.{_≤ℤ_, ltZ}
+use Rattle.integers.specs.Tests.{signed}
+use Rattle.integers.specs.Lists.{or-true, tab, length-tab, getD-tab, tab-drop, tab-end}
 use Rattle.integers.specs.Vector.{Vector}
 use Rattle.nest.specs.Nest.{Limit, toℕ, padded, maxDepth}
 use Rattle.nest.specs.Points.{extent, points, pointCount, rank, Inside}
-use Rattle.nest.proofs.Order.{point-at, index-of, rank-inside, rank-of-point, join-below}
+use Rattle.nest.specs.Refusals.{outside}
+use Rattle.nest.proofs.Counted.{maxExtent}
+use Rattle.nest.proofs.Order.{point-at, index-of, rank-inside, rank-outside, rank-of-point, join-below}
 use Rattle.nest.proofs.Padding.{padded-set, padded-none}
 
 -- within the limits, entry by entry
@@ -47,11 +51,15 @@ tab-inside f g n k h b =
 
 -- ---- the rank of a point
 
+-- the rank a of the loops before, with the index x of one loop more
+abbrev pub rankWith : ℕ → Limit → ℤ → ℕ
+rankWith a l x = a * extent l + toℕ (x -ℤ l .lower)
+
 -- what the loops from here on add to the rank a of those before
 abbrev pub onward : ℕ → List Limit → Vector → ℕ
 onward a [] v = a
 onward a (l ∷ ls) [] = a
-onward a (l ∷ ls) (x ∷ v) = onward (a * extent l + toℕ (x -ℤ l .lower)) ls v
+onward a (l ∷ ls) (x ∷ v) = onward (rankWith a l x) ls v
 
 rank-cons : (l : Limit) (ls : List Limit) (x : ℤ) (v : Vector) → Inside (l ∷ ls) (x ∷ v) → rank (points (l ∷ ls)) (x ∷ v) ≡ toℕ (x -ℤ l .lower) * pointCount ls + rank (points ls) v
 rank-cons l ls x v h =
@@ -77,11 +85,56 @@ onward-rank ls v h = onward-is 0 ls v h ∙ ap (λ n. n + rank (points ls) v) (N
 
 -- one loop more, and the end
 pub onward-more : (f : ℕ → Limit) (g : ℕ → ℤ) (n k a : ℕ) → k < n
-    → onward a (drop k (tab f n)) (drop k (tab g n)) ≡ onward (a * extent (f k) + toℕ (g k -ℤ f k .lower)) (drop (k + 1) (tab f n)) (drop (k + 1) (tab g n))
+    → onward a (drop k (tab f n)) (drop k (tab g n)) ≡ onward (rankWith a (f k) (g k)) (drop (k + 1) (tab f n)) (drop (k + 1) (tab g n))
 onward-more f g n k a h = ap₂ (onward a) (tab-drop f n k h) (tab-drop g n k h)
 
 pub onward-end : (f : ℕ → Limit) (g : ℕ → ℤ) (n a : ℕ) → onward a (drop n (tab f n)) (drop n (tab g n)) ≡ a
 onward-end f g n a = ap (λ ls. onward a ls (drop n (tab g n))) (tab-end f n)
+
+-- an index outside the limits of its loop is not within them
+beyond : (l : Limit) (x : ℤ) → outside (l .lower) (l .upper) x ≡ true → Within l x → ⊥
+unfolding outside
+beyond l x e w =
+    ⊎-elim (λ (t : ltZ x (l .lower) ≡ true). omega (signed, w .0)) (λ (t : ltZ (l .upper) x ≡ true). omega (signed, w .1)) (or-true (ltZ x (l .lower)) (ltZ (l .upper) x) e)
+
+-- so the vector is no point, and its rank is the number of points
+pub rank-beyond : (f : ℕ → Limit) (g : ℕ → ℤ) (n k : ℕ) → k < n → outside (f k .lower) (f k .upper) (g k) ≡ true → rank (points (tab f n)) (tab g n) ≡ pointCount (tab f n)
+rank-beyond f g n k h e = rank-outside (tab f n) (tab g n) (λ i. beyond (f k) (g k) e (tab-inside f g n k i h))
+
+-- the state after k loops: their indices are within the limits, what is left is to go on from the rank a so far, and a is small
+pub record Ranking (f : ℕ → Limit) (g : ℕ → ℤ) (n k a : ℕ) : Type 0 where
+  pub within : (i : ℕ) → i < k → Within (f i) (g i)
+  pub left : onward 0 (tab f n) (tab g n) ≡ onward a (drop k (tab f n)) (drop k (tab g n))
+  pub small : a < maxExtent ^ k
+
+-- before the first loop
+pub ranking-start : (f : ℕ → Limit) (g : ℕ → ℤ) (n : ℕ) → Ranking f g n 0 0
+ranking-start f g n = record { within = λ i h. absurd (NatL.not-suc-le-zero h); left = refl; small = omega arith }
+
+module _ (f : ℕ → Limit) (g : ℕ → ℤ) (n k a : ℕ) (u : Ranking f g n k a) (w : Within (f k) (g k)) (e : extent (f k) ≤ maxExtent) where
+  -- the next rank is small too
+  next-small : rankWith a (f k) (g k) < maxExtent ^ (k + 1)
+  next-small =
+      let b = join-below a (maxExtent ^ k) (extent (f k)) (toℕ (g k -ℤ f k .lower)) (u .small) (index-of (f k) (g k) (w .0) (w .1) .0) in
+      let m = NatL.mul-le-mul-left {m = extent (f k)} {n = maxExtent} (maxExtent ^ k) e in
+      let s : maxExtent ^ (k + 1) ≡ maxExtent ^ k * maxExtent = ap (λ i. maxExtent ^ i) (add-one k) ∙ NatL.pow-suc maxExtent k in
+      omega (arith, b, m, s)
+
+  -- of at most maxDepth loops it is in the machine's range
+  pub next-fits : k < maxDepth → rankWith a (f k) (g k) < maxExtent ^ maxDepth
+  next-fits h = let l : k + 1 ≤ maxDepth = omega arith in omega (arith, next-small, NatL.pow-le-pow-right {n = maxExtent} (omega arith) l)
+
+  -- one loop more
+  pub ranking-more : k < n → Ranking f g n (k + 1) (rankWith a (f k) (g k))
+  ranking-more h = record {
+    within = below-more (λ i. Within (f i) (g i)) k (u .within) w;
+    left = u .left ∙ onward-more f g n k a h;
+    small = next-small;
+  }
+
+-- behind the last loop the rank is had
+pub ranking-end : (f : ℕ → Limit) (g : ℕ → ℤ) (n a : ℕ) → Ranking f g n n a → a ≡ rank (points (tab f n)) (tab g n)
+ranking-end f g n a u = sym (onward-end f g n a) ∙ sym (u .left) ∙ onward-rank (tab f n) (tab g n) (inside-tab f g n (u .within))
 
 -- ---- the point of a rank
 

@@ -2,14 +2,15 @@
 ghost use mathlib.Core.Path.{_≡_};
 ghost use mathlib.Core.Bool.{true, false, _||_};
 ghost use Prim.Native.Nat.{ℕ, _+_, _*_, _<_, _≤_};
-ghost use lib.IntN.{ℤ, pos, negℤ, natAbs, _-ℤ_};
+ghost use lib.IntN.{ℤ, pos, negℤ, natAbs, _+ℤ_, _-ℤ_};
 ghost use lib.Signed.{ltZ, _≤ℤ_};
+ghost use mathlib.Core.List.{[]};
 ghost use lib.ListN.{length, getD, set};
 ghost use Rattle.integers.specs.Lists.{any, repeats, tab};
 ghost use Rattle.integers.specs.Vector.{dots, eqZ, eqV};
-ghost use Rattle.nest.specs.Nest.{emptyNest, withComponent, part, toℕ, depthOf, countOf, limitAt, limitsOf, timeOf, dependenceAt, dependencesOf, weightsOf, maxDepth, maxDependences, maxCube, maxLimit, maxIterations, maxComponent, maxBoundary, maxWeight};
-ghost use Rattle.nest.specs.Points.{extent, pointCount};
-ghost use Rattle.nest.specs.Refusals.{outside, crossed, outOfSpan, backward, refusal, firstMet, headerOrder, limitOrder, vectorOrder, weightOrder, iterations};
+ghost use Rattle.nest.specs.Nest.{emptyNest, withComponent, padded, part, toℕ, depthOf, countOf, limitAt, limitsOf, timeOf, dependenceAt, dependencesOf, weightsOf, maxDepth, maxDependences, maxCube, maxLimit, maxIterations, maxComponent, maxBoundary, maxWeight};
+ghost use Rattle.nest.specs.Points.{extent, points, pointsOf, pointCount, rank, isPoint, source};
+ghost use Rattle.nest.specs.Refusals.{outside, crossed, outOfSpan, backward, refusal, firstMet, headerOrder, limitOrder, vectorOrder, weightOrder, iterations, dependence};
 
 // no such depth: n out of span
 pub const BAD_DEPTH: u8 = 2;
@@ -245,7 +246,15 @@ fn extent_of(lower: i64, upper: i64) -> u64
     requires { ⌜ crossed (record { lower = lower; upper = upper }) ≡ false ⌝ }
     ensures { λ r. ⌜ r ≡ extent (record { lower = lower; upper = upper }) ⌝ }
 {
-    (upper - lower) as u64 + 1
+    distance(lower, upper) + 1
+}
+
+// The index that is q places above the lowest of its loop.
+fn index_at(lower: i64, q: u64) -> i64
+    requires { ⌜ (natAbs lower ≤ maxLimit) × (q ≤ maxIterations) ⌝ }
+    ensures { λ r. ⌜ r ≡ lower +ℤ pos q ⌝ }
+{
+    lower + q as i64
 }
 
 // The number of index points of the n outermost loops.
@@ -507,4 +516,102 @@ pub fn inspect(s: LoopNest) -> Inspection
         refusal: 0,
         iterations: point_count(lower, upper, n) as usize,
     }
+}
+
+// The index point of a rank, of n loops whose limits are not crossed, with 0 in the places behind the depth.
+fn point_within(
+    lower: [i64; LoopNest::MAX_DEPTH],
+    upper: [i64; LoopNest::MAX_DEPTH],
+    n: usize,
+    rank: u64,
+) -> [i64; LoopNest::MAX_DEPTH]
+    requires { ⌜ (n ≤ maxDepth) × (any crossed (tab (limitAt lower upper) n) ≡ false) × (rank < pointCount (tab (limitAt lower upper) n)) ⌝ }
+    ensures { λ r. ⌜ r ≡ padded maxDepth (getD (points (tab (limitAt lower upper) n)) rank []) ⌝ }
+{
+    let mut point = [0i64; LoopNest::MAX_DEPTH];
+    let mut inner = point_count(lower, upper, n);
+    let mut rest = rank;
+    for k in 0..n {
+        inner = inner / extent_of(lower[k], upper[k]);
+        point[k] = index_at(lower[k], rest / inner);
+        rest = rest % inner;
+    }
+    point
+}
+
+// The index point of a rank of an accepted nest, with 0 in the places behind the depth.
+pub fn point_of(s: LoopNest, rank: usize) -> [i64; LoopNest::MAX_DEPTH]
+    requires { ⌜ (refusal s ≡ 0) × (rank < length (pointsOf s)) ⌝ }
+    ensures { λ r. ⌜ r ≡ padded maxDepth (getD (pointsOf s) rank []) ⌝ }
+{
+    let lower = s.lower;
+    let upper = s.upper;
+    let n = to_size(s.depth);
+    point_within(lower, upper, n, rank as u64)
+}
+
+// The rank of a point, of n loops whose limits are not crossed; the number of index points where it is none of them.
+fn rank_within(
+    lower: [i64; LoopNest::MAX_DEPTH],
+    upper: [i64; LoopNest::MAX_DEPTH],
+    n: usize,
+    point: [i64; LoopNest::MAX_DEPTH],
+) -> u64
+    requires { ⌜ (n ≤ maxDepth) × (any crossed (tab (limitAt lower upper) n) ≡ false) ⌝ }
+    ensures { λ r. ⌜ r ≡ rank (points (tab (limitAt lower upper) n)) (part point 0 n) ⌝ }
+{
+    let mut rank: u64 = 0;
+    for k in 0..n {
+        let low = lower[k];
+        let high = upper[k];
+        let index = point[k];
+        if is_outside(low, high, index) {
+            return point_count(lower, upper, n);
+        }
+        rank = rank * extent_of(low, high) + distance(low, index);
+    }
+    rank
+}
+
+// The rank of a point of an accepted nest; the number of iterations where it is none of its index points.
+pub fn rank_of(s: LoopNest, point: [i64; LoopNest::MAX_DEPTH]) -> usize
+    requires { ⌜ refusal s ≡ 0 ⌝ }
+    ensures { λ r. ⌜ r ≡ rank (pointsOf s) (part point 0 (depthOf s)) ⌝ }
+{
+    let lower = s.lower;
+    let upper = s.upper;
+    let n = to_size(s.depth);
+    rank_within(lower, upper, n, point) as usize
+}
+
+// A point less dependence i, of n components, with 0 in the places behind the depth; both are in span.
+fn difference(
+    point: [i64; LoopNest::MAX_DEPTH],
+    dependences: &[i64],
+    i: usize,
+    n: usize,
+) -> [i64; LoopNest::MAX_DEPTH]
+    requires { ⌜ (n ≤ maxDepth) × (i * maxDepth + n ≤ length (now dependences)) ⌝ }
+    requires { ⌜ ((k : ℕ) → k < n → (natAbs (getD point k (pos 0)) ≤ maxLimit) × (natAbs (getD (now dependences) (i * maxDepth + k) (pos 0)) ≤ maxComponent)) ⌝ }
+    ensures { λ r. ⌜ r ≡ padded maxDepth (source (part point 0 n) (dependenceAt (now (dependences .entry)) n i)) ⌝ }
+{
+    let mut source = [0i64; LoopNest::MAX_DEPTH];
+    for k in 0..n {
+        source[k] = point[k] - dependences[i * LoopNest::MAX_DEPTH + k];
+    }
+    source
+}
+
+// The source of an index point of an accepted nest along dependence i, with 0 in the places behind the depth.
+pub fn source_of(
+    s: LoopNest,
+    point: [i64; LoopNest::MAX_DEPTH],
+    i: usize,
+) -> [i64; LoopNest::MAX_DEPTH]
+    requires { ⌜ (refusal s ≡ 0) × (isPoint (pointsOf s) (part point 0 (depthOf s)) ≡ true) × (i < countOf s) ⌝ }
+    ensures { λ r. ⌜ r ≡ padded maxDepth (source (part point 0 (depthOf s)) (dependence s i)) ⌝ }
+{
+    let dependences = s.dependences;
+    let n = to_size(s.depth);
+    difference(point, &dependences, i, n)
 }
