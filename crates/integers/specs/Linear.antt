@@ -30,11 +30,6 @@ abs (negsuc n) = omega arith
 pub sizes : (z : ℤ) → (natAbs z ≡ up z + dn z) × (min (up z) (dn z) ≡ zero)
 sizes z = (abs z, part z)
 
--- `mag` is what `SFits` bounds
-pub mags : (z : ℤ) → (up z ≤ mag z) × (dn z ≤ suc (mag z)) × (mag z ≤ up z + dn z) × (mag z + 1 ≤ up z + dn z + 1)
-mags (pos n) = omega arith
-mags (negsuc n) = omega arith
-
 cond-ind : (c : Bool) (x y : ℤ) (P : ℤ → Type 0) → (T c → P x) → (T (not c) → P y) → P (cond c x y)
 cond-ind true x y P f g = f tt
 cond-ind false x y P f g = g tt

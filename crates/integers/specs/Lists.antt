@@ -20,6 +20,11 @@ module _ {A : Type 0} where
   any p [] = false
   any p (x ∷ xs) = elim (p x) [ true ↦ true | false ↦ any p xs ]
 
+  -- every element passes the test
+  unfoldable pub all : (A → Bool) → List A → Bool
+  all p [] = true
+  all p (x ∷ xs) = elim (p x) [ true ↦ all p xs | false ↦ false ]
+
   -- the place, counted from 0, of the first element that passes the test; the length where none passes
   unfoldable pub place : (A → Bool) → List A → ℕ
   place p [] = zero

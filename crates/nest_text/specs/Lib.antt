@@ -3,3 +3,4 @@ pub mod Fields
 pub mod Text
 pub mod Reader
 pub mod Stored
+pub mod Examples

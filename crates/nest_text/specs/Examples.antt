@@ -1,0 +1,81 @@
+-- Texts that a reader of document 01 would try, with the answers that it gives, as one table; `answers-are` checks all of it on the definitions, by computation.
+-- Assumes nothing.
+use mathlib.Core.Path.{_≡_, refl}
+use mathlib.Core.Bool.{Bool, true, false, not, _&&_, _||_}
+use mathlib.Core.List.{List, [], _∷_, _++_, flatMap}
+use Prim.Native.Nat.{ℕ, _+_}
+use Prim.Native.Char.{code}
+use Prim.Native.String.{String, [] as []ˢ, _∷_ as _∷ˢ_}
+use lib.Dec.{eqb}
+use Rattle.integers.specs.Lists.{all, any, tab, repeats}
+use Rattle.integers.specs.Vector.{dots, eqZ, eqV}
+use Rattle.nest.specs.Nest.{toℕ, part, limitsOf, timeOf, dependencesOf, weightsOf, padded, nestOf, emptyNest}
+use Rattle.nest.specs.Points.{extent, pointCount}
+use Rattle.nest.specs.Refusals.{number, outside, crossed, outOfSpan, backward, holds, firstMet, orElse}
+use Rattle.nest_text.specs.Fields.{Bytes, blanksOf, allDigits, valueOf, digitsOf, signedOf, readOf}
+use Rattle.nest_text.specs.Text.{isLine, numbersOf, areLines, lineNumbers, widths, headed, nestFrom, headerOf, widthsOf, bodyOf, readRefusal}
+
+unfoldable pub bytes : String → Bytes
+bytes []ˢ = []
+bytes (c ∷ˢ s) = code c ∷ bytes s
+
+-- each line with its byte 10
+unfoldable pub lines : List String → Bytes
+lines ts = flatMap (λ t. bytes t ++ (10 ∷ [])) ts
+
+-- a text and the number that reading it answers
+pub record Case : Type 0 where
+  pub text : Bytes
+  pub answer : ℕ
+
+-- one loop, one dependence, with these three lines in its midst
+unfoldable pub oneLoop : String → String → String → List String
+oneLoop limits time last = "     1     1     0" ∷ limits ∷ time ∷ "     1" ∷ last ∷ []
+
+unfoldable pub plain : List String
+plain = oneLoop "     0     3" "     1" "     1     1"
+
+unfoldable pub cases : List Case
+cases =
+    record { text = lines plain; answer = 0 }
+    -- document 01's own text
+    ∷ record { text = lines ("     2     2     1" ∷ "     0     1" ∷ "     0     2" ∷ "     1     1" ∷ "     0     1" ∷ "     1     0" ∷ "     1     2     3" ∷ []); answer = 0 }
+    -- nothing at all, and a first line that does not end
+    ∷ record { text = []; answer = 1 }
+    ∷ record { text = bytes "     1     1     0"; answer = 1 }
+    -- line 1's form goes before 2, 3 and 4, and they go before the form of the other lines
+    ∷ record { text = bytes "     9     9     9"; answer = 1 }
+    ∷ record { text = lines ("     9     9     9" ∷ []); answer = 2 }
+    ∷ record { text = lines ("     1     9     9" ∷ []); answer = 3 }
+    ∷ record { text = lines ("     1     1     9" ∷ []); answer = 4 }
+    ∷ record { text = lines ("     1     1     0" ∷ []); answer = 1 }
+    -- a line too many, a byte too many, no last byte 10
+    ∷ record { text = lines (plain ++ ("     1" ∷ [])); answer = 1 }
+    ∷ record { text = lines plain ++ (32 ∷ []); answer = 1 }
+    ∷ record { text = lines ("     1     1     0" ∷ "     0     3" ∷ "     1" ∷ "     1" ∷ []) ++ bytes "     1     1"; answer = 1 }
+    -- CR before byte 10, a tab, a plus sign, a blank field, a digit before a space
+    ∷ record { text = lines (oneLoop "     0     3" "     1\r" "     1     1"); answer = 1 }
+    ∷ record { text = lines (oneLoop "     0     3" "\t    1" "     1     1"); answer = 1 }
+    ∷ record { text = lines (oneLoop "     0    +3" "     1" "     1     1"); answer = 1 }
+    ∷ record { text = lines (oneLoop "           3" "     1" "     1     1"); answer = 1 }
+    ∷ record { text = lines (oneLoop "     0    3 " "     1" "     1     1"); answer = 1 }
+    -- minus zero, a leading zero, a minus alone
+    ∷ record { text = lines (oneLoop "    -0     3" "     1" "     1     1"); answer = 1 }
+    ∷ record { text = lines (oneLoop "     0    03" "     1" "     1     1"); answer = 1 }
+    ∷ record { text = lines (oneLoop "     -     3" "     1" "     1     1"); answer = 1 }
+    -- six digits and -99999 are in columns: their spans are another matter
+    ∷ record { text = lines (oneLoop "     0999999" "     1" "     1     1"); answer = 5 }
+    ∷ record { text = lines (oneLoop "-99999     3" "     1" "     1     1"); answer = 5 }
+    -- the other lines' form goes before 5, and 5 before 7
+    ∷ record { text = lines (oneLoop "     3     0" "     x" "     1     1"); answer = 1 }
+    ∷ record { text = lines (oneLoop "     3     0" "    17" "     1     1"); answer = 5 }
+    ∷ record { text = lines (oneLoop "     0     3" "    17" "     1     1"); answer = 7 }
+    ∷ record { text = lines (oneLoop "     0     3" "    -1" "     1     1"); answer = 11 }
+    ∷ record { text = lines (oneLoop "     0     3" "     0" "     1     1"); answer = 11 }
+    ∷ record { text = lines (oneLoop "     0     3" "     1" " 65536     1"); answer = 13 }
+    ∷ record { text = lines (oneLoop "     0     3" "     1" "     1   256"); answer = 13 }
+    ∷ []
+
+pub answers-are : all (λ c. eqb (readRefusal (c .text)) (c .answer)) cases ≡ true
+unfolding all any tab repeats dots eqZ eqV toℕ part limitsOf timeOf dependencesOf weightsOf padded nestOf emptyNest extent pointCount number outside crossed outOfSpan backward holds firstMet orElse blanksOf allDigits valueOf digitsOf signedOf readOf isLine numbersOf areLines lineNumbers widths headed nestFrom headerOf widthsOf bodyOf readRefusal bytes lines oneLoop plain cases flatMap
+answers-are = refl
