@@ -25,6 +25,21 @@ module _ {A : Type 0} where
   all p [] = true
   all p (x ∷ xs) = elim (p x) [ true ↦ all p xs | false ↦ false ]
 
+  -- the first element that passes the test, as a list of one; no element where none passes
+  unfoldable pub first : (A → Bool) → List A → List A
+  first p [] = []
+  first p (x ∷ xs) = elim (p x) [ true ↦ x ∷ [] | false ↦ first p xs ]
+
+  -- the elements of a list that are the same as none of `kept` and as none kept before them
+  unfoldable pub firstsAfter : (A → A → Bool) → List A → List A → List A
+  firstsAfter same kept [] = []
+  firstsAfter same kept (x ∷ xs) =
+      elim (any (same x) kept) [ true ↦ firstsAfter same kept xs | false ↦ x ∷ firstsAfter same (x ∷ kept) xs ]
+
+  -- the first element of each class, in the order of the list, where `same` tests whether two elements are in one class
+  unfoldable pub firsts : (A → A → Bool) → List A → List A
+  firsts same xs = firstsAfter same [] xs
+
   -- the place, counted from 0, of the first element that passes the test; the length where none passes
   unfoldable pub place : (A → Bool) → List A → ℕ
   place p [] = zero
@@ -44,6 +59,15 @@ module _ {A : Type 0} where
   unfoldable pub tab : (ℕ → A) → ℕ → List A
   tab f zero = []
   tab f (suc n) = tab f n ++ (f n ∷ [])
+
+unfoldable pub greatest : List ℕ → ℕ
+greatest [] = zero
+greatest (x ∷ xs) = let m = greatest xs in elim (ltb x m) [ true ↦ m | false ↦ x ]
+
+-- the first of k, k + 1, k + 2, .. that passes the test, among the first n; k + n where none passes
+unfoldable pub firstFrom : (ℕ → Bool) → ℕ → ℕ → ℕ
+firstFrom p zero k = k
+firstFrom p (suc n) k = elim (p k) [ true ↦ k | false ↦ firstFrom p n (suc k) ]
 
 -- ---- outcomes of tests
 pub true-T : {b : Bool} → b ≡ true → T b

@@ -11,7 +11,7 @@ use Rattle.integers.specs.Ring.{distr, distl, neg-*, *ℤ-assoc, *ℤ-le
 use mathlib.Core.Bool.{Bool, true, false}
 use borrow.Author.Tests.{eqb-true, eq-eqb}
 use lib.Dec.{eqb}
-use Rattle.integers.specs.Lists.{clash, split}
+use Rattle.integers.specs.Lists.{all, clash, split}
 use Rattle.integers.specs.Bounds.{abs-+, abs-*}
 use Rattle.integers.specs.Solver.{var, con, _⊕_, _⊖_, _⊗_, opp, ring}
 
@@ -277,6 +277,10 @@ eqV [] [] = true
 eqV [] (y ∷ w) = false
 eqV (x ∷ v) [] = false
 eqV (x ∷ v) (y ∷ w) = elim (eqZ x y) [ true ↦ eqV v w | false ↦ false ]
+
+-- every component is zero
+unfoldable pub isZeroV : Vector → Bool
+isZeroV v = all (λ x. eqZ x (pos 0)) v
 
 pub eqZ-true : (a b : ℤ) → eqZ a b ≡ true → a ≡ b
 unfolding eqZ

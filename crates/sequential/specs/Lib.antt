@@ -1,0 +1,2 @@
+-- The sequential loop.
+pub mod Sequential

@@ -1,0 +1,95 @@
+// The sequential loop of a loop nest: the values of its iterations, into a lent table.
+use nest::LoopNest;
+use nest::SHORT_BUFFER;
+ghost use mathlib.Core.Path.{_≡_};
+ghost use mathlib.Core.Bool.{true};
+ghost use mathlib.Core.List.{_++_};
+ghost use Prim.Native.Nat.{_*_, _<_, _≤_};
+ghost use lib.IntN.{pos};
+ghost use lib.ListN.{length, getD, take, drop};
+ghost use Rattle.nest.specs.Nest.{toℕ, part, depthOf, countOf, maxBoundary, maxWeight};
+ghost use Rattle.nest.specs.Points.{pointsOf, rank, isPoint, source};
+ghost use Rattle.nest.specs.Refusals.{refusal, dependence};
+ghost use Rattle.sequential.specs.Sequential.{valueOf, loop, ruleOf, fillRefusal, filled};
+
+// Values are below it.
+const MODULUS: usize = 65536;
+
+// The rank of the source of an index point along dependence i; the number of iterations where the source is none of them.
+pub fn source_at(s: LoopNest, point: [i64; LoopNest::MAX_DEPTH], i: usize) -> usize
+    requires { ⌜ (refusal s ≡ 0) × (isPoint (pointsOf s) (part point 0 (depthOf s)) ≡ true) × (i < countOf s) ⌝ }
+    ensures { λ r. ⌜ r ≡ rank (pointsOf s) (source (part point 0 (depthOf s)) (dependence s i)) ⌝ }
+{
+    let source = nest::source_of(s, point, i);
+    nest::rank_of(s, source)
+}
+
+// Entry j of the first n of a table; the boundary value where j is none of them.
+fn entry_or(values: &[u16], n: usize, j: usize, boundary: u16) -> u16
+    requires { ⌜ n ≤ length (now values) ⌝ }
+    ensures { λ r. ⌜ r ≡ getD (take n (now (values .entry))) j boundary ⌝ }
+{
+    if j < n { values[j] } else { boundary }
+}
+
+// The weight of dependence i times the value that is read along it at an index point, where the n iterations have these values.
+fn weighted_source(
+    s: LoopNest,
+    n: usize,
+    values: &[u16],
+    point: [i64; LoopNest::MAX_DEPTH],
+    i: usize,
+) -> usize
+    requires { ⌜ (refusal s ≡ 0) × (isPoint (pointsOf s) (part point 0 (depthOf s)) ≡ true) × (i < countOf s) × (n ≤ length (now values)) ⌝ }
+    ensures { λ r. ⌜ r ≡ toℕ (getD (s .weights) i (pos 0)) * getD (take n (now (values .entry))) (rank (pointsOf s) (source (part point 0 (depthOf s)) (dependence s i))) (toℕ (s .boundary)) ⌝ }
+    ensures { λ r. ⌜ r ≤ maxWeight * maxBoundary ⌝ }
+{
+    let j = source_at(s, point, i);
+    let boundary = nest::to_size(s.boundary) as u16;
+    let weights = s.weights;
+    let weight = nest::to_size(weights[i]);
+    weight * entry_or(values, n, j, boundary) as usize
+}
+
+// The value of iteration k of an accepted nest, where the n iterations have these values: the weighted sum of its source values.
+pub fn value_at(s: LoopNest, n: usize, values: &[u16], k: usize) -> u16
+    requires { ⌜ (refusal s ≡ 0) × (n ≡ length (pointsOf s)) × (k < n) × (n ≤ length (now values)) ⌝ }
+    ensures { λ r. ⌜ r ≡ valueOf (ruleOf s) s (now (values .entry)) k ⌝ }
+{
+    let point = nest::point_of(s, k);
+    let m = nest::to_size(s.count);
+    let mut sum = k;
+    for i in 0..m {
+        sum = sum + weighted_source(s, n, values, point, i);
+    }
+    (sum % MODULUS) as u16
+}
+
+// The values of the n iterations of an accepted nest, in loop order.
+fn fill_values(s: LoopNest, n: usize, values: &mut [u16])
+    requires { ⌜ (refusal s ≡ 0) × (n ≡ length (pointsOf s)) × (n ≤ length (now values)) ⌝ }
+    ensures { λ _. ⌜ now (values .exit) ≡ loop (ruleOf s) s n ++ drop n (now (values .entry)) ⌝ }
+{
+    for k in 0..n {
+        values[k] = value_at(s, n, values, k);
+    }
+}
+
+// The values of the sequential loop into a lent table, which has an entry for each iteration; answers 0, or the number of the first refusal, 2 to 14,
+// with no entry changed.
+pub fn fill(s: LoopNest, values: &mut [u16]) -> u8
+    ensures { λ r. ⌜ r ≡ fillRefusal s (length (now (values .entry))) ⌝ }
+    ensures { λ r. ⌜ now (values .exit) ≡ filled s (now (values .entry)) ⌝ }
+{
+    let known = nest::inspect(s);
+    let refusal = known.refusal;
+    let n = known.iterations;
+    if refusal != 0 {
+        return refusal;
+    }
+    if values.len() < n {
+        return SHORT_BUFFER;
+    }
+    fill_values(s, n, values);
+    0
+}
