@@ -1,0 +1,25 @@
+//! A second planner for loop nests with constant dependences: the blocks of Sheu and Tai
+//! (source document 000) and their processors on a hypercube, with the free choices as document 01
+//! fixes them.
+//!
+//! Its only purpose is to be compared, byte for byte, with a planner written by other people in
+//! another language. So it follows document 01 sentence by sentence, computes with exact rational
+//! numbers, and prefers the simplest algorithm to the fastest one.
+//!
+//! Some of document 01's titles use words that this code does not: "The sheet" is about the loop
+//! nest, "clock span" about the time vector, "offset span" about dependences, "weight span" about
+//! boundary value and weights, "Card" about processors, "Card message" about messages, "Words from
+//! the rack" about the numbers that calls answer.
+
+pub mod generate;
+pub mod linear;
+pub mod listing;
+pub mod machine;
+pub mod mapping;
+pub mod nest;
+pub mod partition;
+pub mod plan;
+pub mod rational;
+pub mod refusal;
+pub mod sequential;
+pub mod text;

@@ -1,0 +1,259 @@
+//! Document 01's examples P1 to P10, its listing in full, and the counts that source document 000
+//! gives for its loops L1 and L2.
+
+use second::listing::listing;
+use second::nest::{inner_product, LoopNest};
+use second::plan::Plan;
+use second::refusal::*;
+use second::text;
+
+/// The nest that an example starts from: it supplies whatever the example leaves unsaid (document 01,
+/// "Mixes to try").
+fn silent_nest(depth: usize) -> LoopNest {
+    let mut nest = LoopNest {
+        depth: depth as i64,
+        dependence_count: 0,
+        cube_dimension: 0,
+        lower: vec![0; depth],
+        upper: vec![3; depth],
+        time_vector: vec![1; depth],
+        dependences: Vec::new(),
+        boundary_value: 1,
+        weights: Vec::new(),
+    };
+    let mut innermost = vec![0; depth];
+    innermost[depth - 1] = 1;
+    set_dependences(&mut nest, &[&innermost]);
+    nest
+}
+
+fn set_dependences(nest: &mut LoopNest, dependences: &[&[i64]]) {
+    nest.dependence_count = dependences.len() as i64;
+    nest.dependences = dependences.iter().map(|dependence| dependence.to_vec()).collect();
+    nest.weights = vec![1; dependences.len()];
+}
+
+fn p1() -> LoopNest {
+    let mut nest = silent_nest(2);
+    set_dependences(&mut nest, &[&[0, 1], &[1, 1], &[1, 0]]);
+    nest
+}
+
+/// 000's loop L2 with the given upper limits.
+fn loop_l2(upper: [i64; 3]) -> LoopNest {
+    let mut nest = silent_nest(3);
+    nest.upper = upper.to_vec();
+    set_dependences(&mut nest, &[&[0, 1, 0], &[1, 0, 0], &[0, 0, 1]]);
+    nest
+}
+
+/// The plan of a nest that must be accepted, as numbers and as text.
+fn plan(nest: &LoopNest) -> Plan {
+    assert_eq!(nest.refusal(), None);
+    assert_eq!(text::read(text::write(nest).as_bytes()).as_ref(), Ok(nest));
+    Plan::new(nest)
+}
+
+/// The refusal of a nest, the same as numbers and as text.
+fn refusal(nest: &LoopNest) -> Option<Number> {
+    let as_text = text::write(nest);
+    assert_eq!(text::read(as_text.as_bytes()).err(), nest.refusal());
+    if let Some(number) = nest.refusal() {
+        assert_eq!(listing(as_text.as_bytes()), format!("{number:6}\n"));
+    }
+    nest.refusal()
+}
+
+/// The number of iterations of each block.
+fn block_sizes(plan: &Plan) -> Vec<usize> {
+    (0..plan.partition.block_count())
+        .map(|block| plan.partition.blocks.iter().filter(|&&other| other == block).count())
+        .collect()
+}
+
+/// Pairs of iteration and dependence whose source is an iteration: all, and those between blocks.
+fn dependence_counts(nest: &LoopNest, plan: &Plan) -> (usize, usize) {
+    let blocks = &plan.partition.blocks;
+    let (mut all, mut between_blocks) = (0, 0);
+    for rank in 0..plan.iterations.count() {
+        for dependence in &nest.dependences {
+            if let Some(source) = plan.iterations.source(rank, dependence) {
+                all += 1;
+                between_blocks += usize::from(blocks[source] != blocks[rank]);
+            }
+        }
+    }
+    (all, between_blocks)
+}
+
+#[test]
+fn p1_blocks_and_dependences() {
+    let nest = p1();
+    let plan = plan(&nest);
+    assert_eq!(block_sizes(&plan), vec![7, 3, 5, 1]);
+    assert_eq!(dependence_counts(&nest, &plan), (33, 12));
+    assert_eq!(plan.partition.projected_points.len(), 7);
+    assert_eq!((plan.partition.group_size, plan.partition.beta()), (2, 1));
+}
+
+#[test]
+fn p1_processors() {
+    let mut nest = p1();
+    nest.cube_dimension = 2;
+    assert_eq!(plan(&nest).mapping.block_processors, vec![3, 2, 1, 0]);
+}
+
+#[test]
+fn p1_rounding_toward_zero_would_put_two_iterations_of_a_block_at_one_step() {
+    let plan = plan(&p1());
+    let (one, other) =
+        (plan.iterations.rank_of(&[1, 0]).unwrap(), plan.iterations.rank_of(&[0, 1]).unwrap());
+    assert_eq!(plan.partition.steps[one], plan.partition.steps[other]);
+    assert_ne!(plan.partition.blocks[one], plan.partition.blocks[other]);
+}
+
+const P2_TEXT: &str = "     2     2     1
+     0     1
+     0     2
+     1     1
+     0     1
+     1     0
+     1     2     3
+";
+
+const P2_LISTING: &str = "     6     4     3     2     2
+     0     0     0     0     5
+     1     1     0     0    14
+     2     2     1     1    33
+     3     1     2     0    20
+     4     2     0     0    86
+     5     3     0     0   276
+";
+
+#[test]
+fn p2_listing_byte_for_byte() {
+    assert_eq!(listing(P2_TEXT.as_bytes()), P2_LISTING);
+    let nest = text::read(P2_TEXT.as_bytes()).unwrap();
+    assert_eq!(text::write(&nest), P2_TEXT);
+}
+
+#[test]
+fn p3_one_iteration() {
+    let mut nest = silent_nest(1);
+    nest.upper = vec![0];
+    let plan = plan(&nest);
+    assert_eq!(plan.iterations.count(), 1);
+    assert_eq!(plan.partition.step_count, 1);
+    assert_eq!(plan.partition.block_count(), 1);
+    assert_eq!(plan.mapping.processors, vec![0]);
+    let expected = "     1     1     1     1     0\n     0     0     0     0     1\n";
+    assert_eq!(listing(text::write(&nest).as_bytes()), expected);
+}
+
+#[test]
+fn p4_loop_l2() {
+    let plan = plan(&loop_l2([3, 2, 3]));
+    assert_eq!(plan.iterations.count(), 48);
+    assert_eq!(plan.partition.step_count, 9);
+    assert_eq!(plan.partition.group_size, 3);
+    assert_eq!(plan.partition.beta(), 2);
+    assert_eq!(plan.partition.projected_points.len(), 30);
+    assert_eq!(plan.partition.block_count(), 12);
+}
+
+#[test]
+fn loop_l2_with_four_indices_in_each_loop() {
+    let plan = plan(&loop_l2([3, 3, 3]));
+    assert_eq!(plan.partition.projected_points.len(), 37);
+    assert_eq!(plan.partition.block_count(), 17);
+}
+
+#[test]
+fn p5_three_classes() {
+    let mut nest = silent_nest(2);
+    set_dependences(&mut nest, &[&[0, 3], &[0, 1]]);
+    let plan = plan(&nest);
+    assert_eq!(plan.partition.class_count(), 3);
+    let class_of = |point: &[i64]| {
+        let rank = plan.iterations.rank_of(point).unwrap();
+        plan.partition.groups[plan.partition.projected_point_of[rank]].class
+    };
+    assert_eq!(class_of(&[0, 0]), class_of(&[0, 3]));
+    assert_ne!(class_of(&[0, 0]), class_of(&[0, 1]));
+}
+
+#[test]
+fn p6_the_second_is_the_grouping_vector() {
+    let mut nest = silent_nest(2);
+    nest.time_vector = vec![1, 0];
+    set_dependences(&mut nest, &[&[1, 0], &[1, 1]]);
+    let plan = plan(&nest);
+    assert_eq!(plan.partition.group_size, 1);
+    assert_eq!(plan.partition.grouping, Some(1));
+}
+
+#[test]
+fn p7_backward_dependence() {
+    let mut nest = silent_nest(2);
+    set_dependences(&mut nest, &[&[-1, 2]]);
+    assert!(inner_product(&nest.time_vector, &nest.dependences[0]) > 0);
+    assert_eq!(refusal(&nest), Some(BACKWARD_DEPENDENCE));
+    assert_eq!(BACKWARD_DEPENDENCE, 9);
+}
+
+#[test]
+fn p8_against_the_time_vector() {
+    let mut nest = silent_nest(2);
+    nest.time_vector = vec![1, -1];
+    assert_eq!(refusal(&nest), Some(AGAINST_TIME_VECTOR));
+    assert_eq!(AGAINST_TIME_VECTOR, 11);
+}
+
+#[test]
+fn p9_number_of_iterations() {
+    let mut nest = silent_nest(2);
+    nest.upper = vec![63, 63];
+    assert_eq!(plan(&nest).iterations.count(), 4096);
+    nest.upper = vec![63, 64];
+    assert_eq!(refusal(&nest), Some(TOO_MANY_ITERATIONS));
+    assert_eq!(TOO_MANY_ITERATIONS, 6);
+}
+
+#[test]
+fn p10_limits() {
+    let mut nest = silent_nest(1);
+    nest.upper = vec![1000];
+    assert_eq!(plan(&nest).iterations.count(), 1001);
+    nest.upper = vec![1001];
+    assert_eq!(refusal(&nest), Some(BAD_LIMITS));
+    assert_eq!(BAD_LIMITS, 5);
+}
+
+#[test]
+fn refusals_come_by_number_over_the_whole_nest() {
+    let mut nest = p1();
+    nest.dependences[0] = vec![0, 0];
+    nest.dependences[2] = vec![17, 0];
+    assert_eq!(refusal(&nest), Some(DEPENDENCE_SPAN));
+    nest.dependences[2] = vec![1, 1];
+    assert_eq!(refusal(&nest), Some(BACKWARD_DEPENDENCE));
+    nest.dependences[0] = vec![0, 1];
+    nest.time_vector = vec![0, 0];
+    nest.weights[2] = 256;
+    assert_eq!(refusal(&nest), Some(REPEATED_DEPENDENCE));
+    nest.dependences[2] = vec![1, 0];
+    assert_eq!(refusal(&nest), Some(AGAINST_TIME_VECTOR));
+    nest.time_vector = vec![1, 1];
+    assert_eq!(refusal(&nest), Some(WEIGHT_SPAN));
+}
+
+#[test]
+fn all_projections_zero_makes_each_projected_point_a_group() {
+    let mut nest = silent_nest(2);
+    set_dependences(&mut nest, &[&[1, 1], &[2, 2]]);
+    let plan = plan(&nest);
+    assert_eq!(plan.partition.grouping, None);
+    assert_eq!(plan.partition.beta(), 0);
+    assert_eq!(plan.partition.block_count(), 7);
+    assert_eq!(plan.partition.class_count(), 7);
+}
