@@ -187,11 +187,11 @@ pub record Divides (s z : ℤ) : Type 0 where
   pub quotient : ℤ
   pub product : quotient *ℤ s ≡ z
 
-rem-size : (z s : ℤ) → natAbs (remZ z s) ≡ natAbs z % natAbs s
+pub rem-size : (z s : ℤ) → natAbs (remZ z s) ≡ natAbs z % natAbs s
 rem-size (pos a) s = refl
 rem-size (negsuc a) s = natAbs-neg (pos (suc a % natAbs s))
 
-zero-size : (z : ℤ) → natAbs z ≡ 0 → z ≡ pos 0
+pub zero-size : (z : ℤ) → natAbs z ≡ 0 → z ≡ pos 0
 zero-size z e = omega (ints, sizes z)
 
 pub rem-zero→divides : (z s : ℤ) → pos 1 ≤ℤ s → remZ z s ≡ pos 0 → Divides s z

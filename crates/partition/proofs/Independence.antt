@@ -20,7 +20,7 @@ use Rattle.partition.proofs.Elimination.{sumAt, coefficients-complete, 
 use Rattle.partition.proofs.Classes.{length-shifted, comp-shifted, sum-zeros}
 
 -- the components of the zero vector
-comp-zero : (n i : ℕ) → comp (replicate n (pos 0)) i ≡ pos 0
+pub comp-zero : (n i : ℕ) → comp (replicate n (pos 0)) i ≡ pos 0
 comp-zero zero i = refl
 comp-zero (suc n) zero = refl
 comp-zero (suc n) (suc i) = comp-zero n i

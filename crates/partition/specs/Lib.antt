@@ -2,3 +2,7 @@
 pub mod Projection
 pub mod Grouping
 pub mod Partition
+pub mod Tables
+pub mod Basis
+pub mod Periods
+pub mod GroupRows

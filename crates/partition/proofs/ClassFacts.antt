@@ -1,0 +1,107 @@
+-- What the loops over the points use: differences, one class, heads of classes. Assumes nothing.
+use mathlib.Core.Path.{_≡_, refl, sym, ap, ap₂, _∙_, subst}
+use mathlib.Core.Bool.{Bool, true, false, not, _&&_}
+use mathlib.Core.List.{List, [], _∷_, _++_, map, List·Memᴰ, List·Memᴰ·head, List·Memᴰ·tail}
+use Prim.Native.Nat.{ℕ, zero, suc, _+_, _*_, _<_, _≤_}
+use native.Mathlib.Nat as NatL
+use native.Mathlib.Omega.{arith}
+use lib.Dec.{T}
+use lib.IntN.{ℤ, pos, negsuc, natAbs, _+ℤ_, _-ℤ_, _*ℤ_}
+use lib.ListN.{length, getD, take, length-map}
+use lib.Seq.{getD-take, length-take-le}
+use Rattle.integers.specs.Bounds.{abs-sub}
+use Rattle.integers.specs.Solver.{var, con, _⊕_, _⊖_, _⊗_, ring}
+use Rattle.integers.specs.Vector.{AllWithin, getD-within}
+use Rattle.integers.specs.Lists.{place}
+use Rattle.integers.specs.Vector.{Vector, dots, plus, times, minus, dots-minus}
+use Rattle.partition.specs.Projection.{projection}
+use Rattle.partition.specs.Grouping.{isCombination, sameClass, directions, difference, Frame}
+use Rattle.partition.specs.Basis.{pick, Framed, inOneClass}
+use Rattle.partition.specs.Tables.{row, rows}
+use Rattle.integers.specs.Lists.{T-true}
+use Rattle.partition.proofs.Vectors.{comp, same-components, length-minus, comp-minus, comp-projection}
+use Rattle.partition.proofs.Classes.{Sound, same-class-refl}
+use Rattle.partition.proofs.Four.{length-four-projection}
+use Rattle.partition.proofs.Inside.{pick-lengths}
+use Rattle.partition.proofs.Listed.{place-is, place-none}
+
+-- ---- differences
+
+pub row-minus : (t : List ℤ) (i h : ℕ) → (getD t (i * 4) (pos 0) -ℤ getD t (h * 4) (pos 0)) ∷ (getD t (i * 4 + 1) (pos 0) -ℤ getD t (h * 4 + 1) (pos 0)) ∷ (getD t (i * 4 + 2) (pos 0) -ℤ getD t (h * 4 + 2) (pos 0)) ∷ (getD t (i * 4 + 3) (pos 0) -ℤ getD t (h * 4 + 3) (pos 0)) ∷ [] ≡ minus (row t i) (row t h)
+unfolding plus times
+row-minus t i h = cc (less (i * 4) (h * 4), less (i * 4 + 1) (h * 4 + 1), less (i * 4 + 2) (h * 4 + 2), less (i * 4 + 3) (h * 4 + 3))
+  where
+    less : (a b : ℕ) → getD t a (pos 0) -ℤ getD t b (pos 0) ≡ getD t a (pos 0) +ℤ negsuc 0 *ℤ getD t b (pos 0)
+    less a b = ring (getD t a (pos 0) ∷ getD t b (pos 0) ∷ []) (var 0 ⊖ var 1) (var 0 ⊕ con (negsuc 0) ⊗ var 1) tt
+
+pub minus-within : (t : List ℤ) (i h : ℕ) → AllWithin 1000 t → AllWithin 2000 (minus (row t i) (row t h))
+minus-within t i h w =
+    subst (AllWithin 2000) (row-minus t i h) (x (i * 4) (h * 4), (x (i * 4 + 1) (h * 4 + 1), (x (i * 4 + 2) (h * 4 + 2), (x (i * 4 + 3) (h * 4 + 3), tt))))
+  where
+    x : (a b : ℕ) → natAbs (getD t a (pos 0) -ℤ getD t b (pos 0)) ≤ 2000
+    x a b = abs-sub (getD t a (pos 0)) (getD t b (pos 0)) (getD-within 1000 t a w) (getD-within 1000 t b w)
+
+pub projection-minus : (P j k : Vector) → length P ≡ 4 → length j ≡ 4 → length k ≡ 4 → projection P (minus j k) ≡ minus (projection P j) (projection P k)
+projection-minus P j k p q r =
+    same-components (projection P (minus j k)) (minus (projection P j) (projection P k)) (length-four-projection P (minus j k) p lm ∙ sym (length-minus (projection P j) (projection P k) lp ∙ length-four-projection P j p q))
+    (λ i. comp-projection P (minus j k) i
+    ∙ ap₂ (λ (u v : ℤ). dots P P *ℤ u -ℤ v *ℤ comp P i) (comp-minus j k i) (dots-minus P j k)
+    ∙ ring (dots P P ∷ comp j i ∷ comp k i ∷ dots P j ∷ dots P k ∷ comp P i ∷ []) (var 0 ⊗ (var 1 ⊖ var 2) ⊖ (var 3 ⊖ var 4) ⊗ var 5) (var 0 ⊗ var 1 ⊖ var 3 ⊗ var 5 ⊖ (var 0 ⊗ var 2 ⊖ var 4 ⊗ var 5)) tt
+    ∙ sym (comp-minus (projection P j) (projection P k) i ∙ ap₂ _-ℤ_ (comp-projection P j i) (comp-projection P k i)))
+  where
+    lm : length (minus j k) ≡ 4
+    lm = length-minus j k (q ∙ sym r) ∙ q
+
+    lp : length (projection P j) ≡ length (projection P k)
+    lp = length-four-projection P j p q ∙ sym (length-four-projection P k p r)
+
+-- ---- one class
+
+pub one-class : (P a b c : Vector) (count : ℕ) (j k : Vector) → length P ≡ 4 → length j ≡ 4 → length k ≡ 4
+    → isCombination (map (projection P) (pick count a b c)) (projection P (minus j k)) ≡ inOneClass P count a b c j k
+unfolding sameClass directions difference
+one-class P a b c count j k p q r = ap (isCombination (map (projection P) (pick count a b c))) (projection-minus P j k p q r)
+
+sound : {P : Vector} {count : ℕ} {a b c f1 f2 f3 : Vector} {d : ℤ} → Framed P count a b c f1 f2 f3 d → Sound 4 (record { time = P; chosen = pick count a b c; size = 1 })
+unfolding directions
+sound {count} {a} {b} {c} F = record { time-length = F .lengths .0; chosen-length = pick-lengths a b c count (F .lengths .1) (F .lengths .2) (F .lengths .3); independent = F .independent }
+
+pub class-refl : {P : Vector} {count : ℕ} {a b c f1 f2 f3 : Vector} {d : ℤ} → Framed P count a b c f1 f2 f3 d → (y : Vector) → length y ≡ 4 → inOneClass P count a b c y y ≡ true
+class-refl {P} {count} {a} {b} {c} F y e = T-true (same-class-refl 4 (record { time = P; chosen = pick count a b c; size = 1 }) (sound F) y e)
+
+pub rows-length : (t : List ℤ) (n : ℕ) (y : Vector) → List·Memᴰ y (rows t n) → length y ≡ 4
+unfolding rows
+rows-length t zero y m = elim m [ ]
+rows-length t (suc n) y m = go (rows t n) m (rows-length t n y)
+  where
+    last : (zs : List Vector) → List·Memᴰ y (row t n ∷ []) → length y ≡ 4
+    last zs (List·Memᴰ·head e) = ap (λ (u : Vector). length u) e
+    last zs (List·Memᴰ·tail k) = elim k [ ]
+
+    go : (xs : List Vector) → List·Memᴰ y (xs ++ (row t n ∷ [])) → (List·Memᴰ y xs → length y ≡ 4) → length y ≡ 4
+    go [] m h = last [] m
+    go (x ∷ xs) (List·Memᴰ·head e) h = h (List·Memᴰ·head e)
+    go (x ∷ xs) (List·Memᴰ·tail k) h = go xs k (λ u. h (List·Memᴰ·tail u))
+
+-- ---- heads
+
+pub getD-map : {A B : Type 0} (f : A → B) (d : A) (xs : List A) (i : ℕ) → getD (map f xs) i (f d) ≡ f (getD xs i d)
+getD-map f d [] i = refl
+getD-map f d (x ∷ xs) zero = refl
+getD-map f d (x ∷ xs) (suc i) = getD-map f d xs i
+
+pub length-heads : (t : List ℤ) (hs : List ℕ) (k : ℕ) → k ≤ length hs → length (map (row t) (take k hs)) ≡ k
+length-heads t hs k l = length-map (take k hs) (row t) ∙ length-take-le k hs l
+
+pub head-at : (t : List ℤ) (hs : List ℕ) (k c : ℕ) → c < k → getD (map (row t) (take k hs)) c (row t 0) ≡ row t (getD hs c 0)
+head-at t hs k c l = getD-map (row t) 0 (take k hs) c ∙ ap (row t) (getD-take k hs c 0 l)
+
+pub head-found : (p : Vector → Bool) (t : List ℤ) (hs : List ℕ) (k c : ℕ) → k ≤ length hs → c < k → p (row t (getD hs c 0)) ≡ true → ((b : ℕ) → b < c → p (row t (getD hs b 0)) ≡ false)
+    → c ≡ place p (map (row t) (take k hs))
+head-found p t hs k c lk l e n =
+    sym (place-is (row t 0) p (map (row t) (take k hs)) c (subst (λ (j : ℕ). c < j) (sym (length-heads t hs k lk)) l) (ap p (head-at t hs k c l) ∙ e)
+    (λ b h. ap p (head-at t hs k b (NatL.lt-trans h l)) ∙ n b h))
+
+pub head-none : (p : Vector → Bool) (t : List ℤ) (hs : List ℕ) (k : ℕ) → k ≤ length hs → ((b : ℕ) → b < k → p (row t (getD hs b 0)) ≡ false) → k ≡ place p (map (row t) (take k hs))
+head-none p t hs k lk n =
+    sym (place-none (row t 0) p (map (row t) (take k hs)) (λ b h. let l = subst (λ (j : ℕ). b < j) (length-heads t hs k lk) h in ap p (head-at t hs k b l) ∙ n b l) ∙ length-heads t hs k lk)

@@ -1,0 +1,260 @@
+-- A flat table of groups, written from the front: the invariant of the loop over the points, and a turn. Assumes nothing.
+use mathlib.Core.Path.{_≡_, refl, sym, ap, ap₂, _∙_, subst}
+use mathlib.Core.Bool.{Bool, true, false}
+use mathlib.Core.Logic.{_⊎_, inl, inr}
+use mathlib.Core.List.{List, [], _∷_, _++_, map}
+use Prim.Native.Nat.{ℕ, zero, suc, _+_, _*_, _<_, _≤_}
+use native.Mathlib.Nat as NatL
+use native.Mathlib.Omega.{arith}
+use lib.IntN.{ℤ, pos, natAbs}
+use Rattle.integers.specs.Vector.{AllWithin, getD-within}
+use lib.ListN.{length, getD, take, drop, set, length-set, replicate, length-replicate}
+use lib.Seq.{getD-set-same, getD-set-other}
+use Rattle.integers.specs.Lists.{place, firsts}
+use Rattle.integers.specs.Vector.{Vector}
+use Rattle.partition.specs.Grouping.{Frame, sameClass, seeds, classNumber, directions, difference}
+use Rattle.partition.specs.Tables.{row, rows, putRow}
+use Rattle.partition.specs.Basis.{Keyed, Grouped, basisFrame, inOneClass, pick}
+use Rattle.partition.proofs.Four.{four}
+use Rattle.partition.proofs.Listed.{getD-before, getD-rows, length-rows, place-true}
+use Rattle.partition.proofs.Numbering.{numbers, length-numbers}
+use Rattle.partition.proofs.ClassFacts.{length-heads, head-at}
+use Rattle.partition.proofs.Table.{Numbered, numbered-start, numbered-more, number-most}
+
+-- ---- one row stored
+
+put-other : (t : List ℤ) (i : ℕ) (g : Vector) (a : ℕ) → (a ≡ i * 4 → ⊥) → (a ≡ i * 4 + 1 → ⊥) → (a ≡ i * 4 + 2 → ⊥) → (a ≡ i * 4 + 3 → ⊥) → getD (putRow t i g) a (pos 0) ≡ getD t a (pos 0)
+put-other t i g a n0 n1 n2 n3 =
+    getD-set-other (set (set (set t (i * 4) (getD g 0 (pos 0))) (i * 4 + 1) (getD g 1 (pos 0))) (i * 4 + 2) (getD g 2 (pos 0))) (i * 4 + 3) a (getD g 3 (pos 0)) (pos 0) n3
+    ∙ getD-set-other (set (set t (i * 4) (getD g 0 (pos 0))) (i * 4 + 1) (getD g 1 (pos 0))) (i * 4 + 2) a (getD g 2 (pos 0)) (pos 0) n2
+    ∙ getD-set-other (set t (i * 4) (getD g 0 (pos 0))) (i * 4 + 1) a (getD g 1 (pos 0)) (pos 0) n1
+    ∙ getD-set-other t (i * 4) a (getD g 0 (pos 0)) (pos 0) n0
+
+pub put-length : (t : List ℤ) (i : ℕ) (g : Vector) → length (putRow t i g) ≡ length t
+put-length t i g =
+    length-set (set (set (set t (i * 4) (getD g 0 (pos 0))) (i * 4 + 1) (getD g 1 (pos 0))) (i * 4 + 2) (getD g 2 (pos 0))) (i * 4 + 3) (getD g 3 (pos 0))
+    ∙ length-set (set (set t (i * 4) (getD g 0 (pos 0))) (i * 4 + 1) (getD g 1 (pos 0))) (i * 4 + 2) (getD g 2 (pos 0))
+    ∙ length-set (set t (i * 4) (getD g 0 (pos 0))) (i * 4 + 1) (getD g 1 (pos 0)) ∙ length-set t (i * 4) (getD g 0 (pos 0))
+
+all-set : (A : ℕ) (t : List ℤ) (a : ℕ) (x : ℤ) → AllWithin A t → natAbs x ≤ A → AllWithin A (set t a x)
+all-set A [] a x h l = tt
+all-set A (y ∷ t) zero x h l = (l, h .1)
+all-set A (y ∷ t) (suc a) x h l = (h .0, all-set A t a x (h .1) l)
+
+pub put-within : (A : ℕ) (t : List ℤ) (i : ℕ) (g : Vector) → AllWithin A t → AllWithin A g → AllWithin A (putRow t i g)
+put-within A t i g h w =
+    all-set A (set (set (set t (i * 4) (getD g 0 (pos 0))) (i * 4 + 1) (getD g 1 (pos 0))) (i * 4 + 2) (getD g 2 (pos 0))) (i * 4 + 3) (getD g 3 (pos 0))
+    (all-set A (set (set t (i * 4) (getD g 0 (pos 0))) (i * 4 + 1) (getD g 1 (pos 0))) (i * 4 + 2) (getD g 2 (pos 0))
+    (all-set A (set t (i * 4) (getD g 0 (pos 0))) (i * 4 + 1) (getD g 1 (pos 0)) (all-set A t (i * 4) (getD g 0 (pos 0)) h (getD-within A g 0 w)) (getD-within A g 1 w)) (getD-within A g 2 w))
+    (getD-within A g 3 w)
+
+pub put-row : (t : List ℤ) (i : ℕ) (g : Vector) → i * 4 + 4 ≤ length t → length g ≡ 4 → row (putRow t i g) i ≡ g
+put-row t i g l e = cc (e0, e1, e2, e3, four g e)
+  where
+    t1 : List ℤ
+    t1 = set t (i * 4) (getD g 0 (pos 0))
+
+    t2 : List ℤ
+    t2 = set t1 (i * 4 + 1) (getD g 1 (pos 0))
+
+    t3 : List ℤ
+    t3 = set t2 (i * 4 + 2) (getD g 2 (pos 0))
+
+    l1 : length t1 ≡ length t
+    l1 = length-set t (i * 4) (getD g 0 (pos 0))
+
+    l2 : length t2 ≡ length t
+    l2 = length-set t1 (i * 4 + 1) (getD g 1 (pos 0)) ∙ l1
+
+    l3 : length t3 ≡ length t
+    l3 = length-set t2 (i * 4 + 2) (getD g 2 (pos 0)) ∙ l2
+
+    e3 : getD (set t3 (i * 4 + 3) (getD g 3 (pos 0))) (i * 4 + 3) (pos 0) ≡ getD g 3 (pos 0)
+    e3 = getD-set-same t3 (i * 4 + 3) (getD g 3 (pos 0)) (pos 0) (omega (arith, l3))
+
+    e2 : getD (set t3 (i * 4 + 3) (getD g 3 (pos 0))) (i * 4 + 2) (pos 0) ≡ getD g 2 (pos 0)
+    e2 = getD-set-other t3 (i * 4 + 3) (i * 4 + 2) (getD g 3 (pos 0)) (pos 0) (λ q. absurd (omega arith)) ∙ (getD-set-same t2 (i * 4 + 2) (getD g 2 (pos 0)) (pos 0) (omega (arith, l2)))
+
+    e1 : getD (set t3 (i * 4 + 3) (getD g 3 (pos 0))) (i * 4 + 1) (pos 0) ≡ getD g 1 (pos 0)
+    e1 =
+        getD-set-other t3 (i * 4 + 3) (i * 4 + 1) (getD g 3 (pos 0)) (pos 0) (λ q. absurd (omega arith))
+        ∙ (getD-set-other t2 (i * 4 + 2) (i * 4 + 1) (getD g 2 (pos 0)) (pos 0) (λ q. absurd (omega arith)))
+        ∙ (getD-set-same t1 (i * 4 + 1) (getD g 1 (pos 0)) (pos 0) (omega (arith, l1)))
+
+    e0 : getD (set t3 (i * 4 + 3) (getD g 3 (pos 0))) (i * 4) (pos 0) ≡ getD g 0 (pos 0)
+    e0 =
+        getD-set-other t3 (i * 4 + 3) (i * 4) (getD g 3 (pos 0)) (pos 0) (λ q. absurd (omega arith))
+        ∙ (getD-set-other t2 (i * 4 + 2) (i * 4) (getD g 2 (pos 0)) (pos 0) (λ q. absurd (omega arith)))
+        ∙ (getD-set-other t1 (i * 4 + 1) (i * 4) (getD g 1 (pos 0)) (pos 0) (λ q. absurd (omega arith)))
+        ∙ (getD-set-same t (i * 4) (getD g 0 (pos 0)) (pos 0) (omega arith))
+
+pub row-other : (t : List ℤ) (i j : ℕ) (g : Vector) → j < i → row (putRow t i g) j ≡ row t j
+row-other t i j g l = cc (at 0 (omega arith), at 1 (omega arith), at 2 (omega arith), at 3 (omega arith), zero-more (j * 4))
+  where
+    zero-more : (n : ℕ) → n + 0 ≡ n
+    zero-more n = omega arith
+
+    at : (m : ℕ) → m < 4 → getD (putRow t i g) (j * 4 + m) (pos 0) ≡ getD t (j * 4 + m) (pos 0)
+    at m h = put-other t i g (j * 4 + m) (λ q. absurd (omega arith)) (λ q. absurd (omega arith)) (λ q. absurd (omega arith)) (λ q. absurd (omega arith))
+
+-- ---- the invariant
+
+abbrev pub blank : List ℕ
+blank = replicate 4096 0
+
+pub record Keying (same : Vector → Vector → Bool) (F : Frame) (count : ℕ) (t keys₀ keys : List ℤ) (heads : List ℕ) (k i : ℕ) : Type 0 where
+  -- the class numbers so far
+  pub out : List ℕ
+  pub num : Numbered same t blank out heads k i
+  pub low : (j : ℕ) → j < i → getD out j 0 < k
+  pub keyed : (j : ℕ) → j < i → Keyed F count (getD out j 0) (row t j) (row t (getD heads (getD out j 0) 0)) (row keys j)
+  pub rest : (a : ℕ) → i * 4 ≤ a → getD keys a (pos 0) ≡ getD keys₀ a (pos 0)
+  pub size : length keys ≡ length keys₀
+  pub within : (j : ℕ) → j < i → AllWithin 1000000000 (row keys j)
+
+pub keying-start : (same : Vector → Vector → Bool) (F : Frame) (count : ℕ) (t keys : List ℤ) (heads : List ℕ) → Keying same F count t keys keys heads 0 0
+keying-start same F count t keys heads =
+    record { out = blank; num = numbered-start same t blank heads; low = λ j l. absurd (omega arith); keyed = λ j l. absurd (omega arith); rest = λ a l. refl; size = refl; within = λ j l. absurd (omega arith) }
+
+module _ (same : Vector → Vector → Bool) (self : (y : Vector) → length y ≡ 4 → same y y ≡ true) (F : Frame) (count : ℕ) (t keys₀ keys : List ℤ) (heads : List ℕ) (k i c : ℕ)
+    (K : Keying same F count t keys₀ keys heads k i) (room : k < length heads) (short : i < 4096) (at : c ≡ place (same (row t i)) (map (row t) (take k heads))) where
+  long : i < length blank
+  long = subst (λ (n : ℕ). i < n) (sym (length-replicate {A = ℕ} 4096 0)) short
+
+  pub key-most : c ≤ k
+  key-most = number-most same self t blank (K .out) heads k i c (K .num) room long at
+
+  -- the head of the class of point i, and that they are in one class
+  pub head-low : getD (set heads k i) c 0 ≤ i
+  head-low = pick (NatL.eq-or-lt-of-le key-most)
+    where
+      pick : (c ≡ k) ⊎ (c < k) → getD (set heads k i) c 0 ≤ i
+      pick (inl e) = subst (λ (n : ℕ). n ≤ i) (sym (ap (λ (b : ℕ). getD (set heads k i) b 0) e ∙ getD-set-same heads k i 0 room)) (NatL.le-refl i)
+      pick (inr l) = let h = K .num .below c l in subst (λ (n : ℕ). n ≤ i) (sym (getD-set-other heads k c i 0 (NatL.ne-of-lt l))) (NatL.le-of-lt h)
+
+  pub head-same : same (row t i) (row t (getD (set heads k i) c 0)) ≡ true
+  head-same = pick (NatL.eq-or-lt-of-le key-most)
+    where
+      H : List Vector
+      H = map (row t) (take k heads)
+
+      pick : (c ≡ k) ⊎ (c < k) → same (row t i) (row t (getD (set heads k i) c 0)) ≡ true
+      pick (inl e) = ap (λ (n : ℕ). same (row t i) (row t n)) (ap (λ (b : ℕ). getD (set heads k i) b 0) e ∙ getD-set-same heads k i 0 room) ∙ self (row t i) refl
+      pick (inr l) =
+          ap (λ (n : ℕ). same (row t i) (row t n)) (getD-set-other heads k c i 0 (NatL.ne-of-lt l))
+          ∙ ap (same (row t i)) (sym (head-at t heads k c l)) ∙ ap (λ (b : ℕ). same (row t i) (getD (map (row t) (take k heads)) b (row t 0))) at
+          ∙ place-true (row t 0) (same (row t i)) (map (row t) (take k heads)) (subst (λ (n : ℕ). place (same (row t i)) (map (row t) (take k heads)) < n) (sym (length-heads t heads k (NatL.le-of-lt room))) (subst (λ (n : ℕ). n < k) at l))
+
+  pub keying-more : (k′ : ℕ) → (c ≡ k → k′ ≡ k + 1) → ((c ≡ k → ⊥) → k′ ≡ k) → (g : Vector) → i * 4 + 4 ≤ length keys → AllWithin 1000000000 g → Keyed F count c (row t i) (row t (getD (set heads k i) c 0)) g
+      → Keying same F count t keys₀ (putRow keys i g) (set heads k i) k′ (i + 1)
+  keying-more k′ one stay g fits wg G =
+      record {
+        out = set (K .out) i c;
+        num = numbered-more same self t blank (K .out) heads k i c (K .num) room long at k′ one stay;
+        low = λ j l. low′ j (below j l);
+        keyed = λ j l. keyed′ j (below j l);
+        rest = λ a l. put-other keys i g a (λ q. absurd (omega arith)) (λ q. absurd (omega arith)) (λ q. absurd (omega arith)) (λ q. absurd (omega arith)) ∙ K .rest a (omega arith);
+        size = put-length keys i g ∙ K .size;
+        within = λ j l. within′ j (below j l);
+      }
+    where
+      below : (j : ℕ) → j < i + 1 → (j ≡ i) ⊎ (j < i)
+      below j l = NatL.eq-or-lt-of-le (omega arith)
+
+      wide : i < length (K .out)
+      wide = subst (λ (n : ℕ). i < n) (sym (K .num .size)) long
+
+      more : k ≤ k′
+      more = pick (NatL.eq-or-lt-of-le key-most)
+        where
+          pick : (c ≡ k) ⊎ (c < k) → k ≤ k′
+          pick (inl e) = let h = one e in omega arith
+          pick (inr l) = let h = stay (NatL.ne-of-lt l) in omega arith
+
+      last : c < k′
+      last = pick (NatL.eq-or-lt-of-le key-most)
+        where
+          pick : (c ≡ k) ⊎ (c < k) → c < k′
+          pick (inl e) = let h = one e in omega arith
+          pick (inr l) = let h = stay (NatL.ne-of-lt l) in omega arith
+
+      here : getD (set (K .out) i c) i 0 ≡ c
+      here = getD-set-same (K .out) i c 0 wide
+
+      there : (j : ℕ) → j < i → getD (set (K .out) i c) j 0 ≡ getD (K .out) j 0
+      there j l = getD-set-other (K .out) i j c 0 (NatL.ne-of-lt l)
+
+      low′ : (j : ℕ) → (j ≡ i) ⊎ (j < i) → getD (set (K .out) i c) j 0 < k′
+      low′ j (inl e) = subst (λ (n : ℕ). n < k′) (sym (ap (λ (b : ℕ). getD (set (K .out) i c) b 0) e ∙ here)) last
+      low′ j (inr l) = subst (λ (n : ℕ). n < k′) (sym (there j l)) (NatL.le-trans (K .low j l) more)
+
+      keyed′ : (j : ℕ) → (j ≡ i) ⊎ (j < i) → Keyed F count (getD (set (K .out) i c) j 0) (row t j) (row t (getD (set heads k i) (getD (set (K .out) i c) j 0) 0)) (row (putRow keys i g) j)
+      keyed′ j (inl e) =
+          subst (λ (b : ℕ). Keyed F count (getD (set (K .out) i c) b 0) (row t b) (row t (getD (set heads k i) (getD (set (K .out) i c) b 0) 0)) (row (putRow keys i g) b)) (sym e)
+          (subst (λ (v : Vector). Keyed F count (getD (set (K .out) i c) i 0) (row t i) (row t (getD (set heads k i) (getD (set (K .out) i c) i 0) 0)) v) (sym (put-row keys i g fits (G .length-is)))
+          (subst (λ (b : ℕ). Keyed F count b (row t i) (row t (getD (set heads k i) b 0)) g) (sym here) G))
+      keyed′ j (inr l) =
+          subst (λ (v : Vector). Keyed F count (getD (set (K .out) i c) j 0) (row t j) (row t (getD (set heads k i) (getD (set (K .out) i c) j 0) 0)) v) (sym (row-other keys i j g l))
+          (subst (λ (b : ℕ). Keyed F count b (row t j) (row t (getD (set heads k i) b 0)) (row keys j)) (sym (there j l))
+          (subst (λ (b : ℕ). Keyed F count (getD (K .out) j 0) (row t j) (row t b) (row keys j)) (sym (getD-set-other heads k (getD (K .out) j 0) i 0 (NatL.ne-of-lt (K .low j l)))) (K .keyed j l)))
+
+      within′ : (j : ℕ) → (j ≡ i) ⊎ (j < i) → AllWithin 1000000000 (row (putRow keys i g) j)
+      within′ j (inl e) = subst (λ (b : ℕ). AllWithin 1000000000 (row (putRow keys i g) b)) (sym e) (subst (AllWithin 1000000000) (sym (put-row keys i g fits (G .length-is))) wg)
+      within′ j (inr l) = subst (AllWithin 1000000000) (sym (row-other keys i j g l)) (K .within j l)
+
+-- ---- the end
+
+getD-numbers : (same : Vector → Vector → Bool) (heads xs : List Vector) (j : ℕ) → j < length xs → getD (numbers same heads xs) j 0 ≡ place (same (getD xs j [])) heads
+getD-numbers same heads [] j l = absurd (omega arith)
+getD-numbers same heads (x ∷ xs) zero l = refl
+getD-numbers same heads (x ∷ xs) (suc j) l = getD-numbers same heads xs j (omega arith)
+
+getD-default : (a b : Vector) (xs : List Vector) (i : ℕ) → i < length xs → getD xs i a ≡ getD xs i b
+getD-default a b [] i l = absurd (omega arith)
+getD-default a b (x ∷ xs) zero l = refl
+getD-default a b (x ∷ xs) (suc i) l = getD-default a b xs i (omega arith)
+
+keying-same : (same : Vector → Vector → Bool) (F : Frame) (count : ℕ) (t keys₀ keys : List ℤ) (heads : List ℕ) (k n : ℕ) → Keying same F count t keys₀ keys heads k n → k ≤ length heads → (j : ℕ) → j < n
+    → Keyed F count (place (same (row t j)) (firsts same (rows t n))) (row t j) (getD (firsts same (rows t n)) (place (same (row t j)) (firsts same (rows t n))) []) (row keys j)
+keying-same same F count t keys₀ keys heads k n K room j l =
+    subst (λ (b : ℕ). Keyed F count b (row t j) (getD (firsts same (rows t n)) b []) (row keys j)) number
+    (subst (λ (v : Vector). Keyed F count (getD (K .out) j 0) (row t j) v (row keys j)) seed (K .keyed j l))
+  where
+    inside : j < length (rows t n)
+    inside = subst (λ (b : ℕ). j < b) (sym (length-rows t n)) l
+
+    number : getD (K .out) j 0 ≡ place (same (row t j)) (firsts same (rows t n))
+    number =
+        ap (λ (u : List ℕ). getD u j 0) (K .num .table)
+        ∙ getD-before 0 (numbers same (firsts same (rows t n)) (rows t n)) (drop n blank) j (subst (λ (b : ℕ). j < b) (sym (length-numbers same (firsts same (rows t n)) (rows t n))) inside)
+        ∙ getD-numbers same (firsts same (rows t n)) (rows t n) j inside
+        ∙ ap (λ (v : Vector). place (same v) (firsts same (rows t n))) (getD-rows t n j l)
+
+    seed : row t (getD heads (getD (K .out) j 0) 0) ≡ getD (firsts same (rows t n)) (getD (K .out) j 0) []
+    seed =
+        sym (head-at t heads k (getD (K .out) j 0) (K .low j l))
+        ∙ getD-default (row t 0) [] (map (row t) (take k heads)) (getD (K .out) j 0) (subst (λ (b : ℕ). getD (K .out) j 0 < b) (sym (length-heads t heads k room)) (K .low j l))
+        ∙ ap (λ (hs : List Vector). getD hs (getD (K .out) j 0) []) (K .num .heads-are)
+
+pub size-free : (P a b c : Vector) (count r : ℕ) → inOneClass P count a b c ≡ sameClass (basisFrame P count a b c r)
+unfolding sameClass directions difference
+size-free P a b c count r = refl
+
+pub keying-end : (P a b c : Vector) (count r : ℕ) (t keys₀ keys : List ℤ) (heads : List ℕ) (k i n : ℕ) → Keying (inOneClass P count a b c) (basisFrame P count a b c r) count t keys₀ keys heads k i
+    → k ≤ length heads → i ≡ n → Grouped (basisFrame P count a b c r) count t n keys₀ keys
+unfolding classNumber seeds
+keying-end P a b c count r t keys₀ keys heads k i n K₀ room e =
+    record {
+      keyed = keying-same (sameClass (basisFrame P count a b c r)) (basisFrame P count a b c r) count t keys₀ keys heads k n K room;
+      rest = K .rest;
+      size = K .size;
+      within = K .within;
+    }
+  where
+    K : Keying (sameClass (basisFrame P count a b c r)) (basisFrame P count a b c r) count t keys₀ keys heads k n
+    K =
+        subst (λ (m : ℕ). Keying (sameClass (basisFrame P count a b c r)) (basisFrame P count a b c r) count t keys₀ keys heads k m) e
+        (subst (λ (s : Vector → Vector → Bool). Keying s (basisFrame P count a b c r) count t keys₀ keys heads k i) (size-free P a b c count r) K₀)
+
+pub in-set : (t : List ℤ) (i : ℕ) (x : ℤ) (a : ℕ) → a < length t → a < length (set t i x)
+in-set t i x a l = subst (λ (n : ℕ). a < n) (sym (length-set t i x)) l

@@ -1,0 +1,39 @@
+-- `partition::normal` meets its contract. Assumes nothing.
+use mathlib.Core.Path.{_≡_, refl, sym, _∙_, ap, ap₂, subst}
+use mathlib.Core.Bool.{Bool, true, false, _&&_}
+use mathlib.Core.List.{List, [], _∷_}
+use Prim.Native.Nat.{ℕ, _≤_, _<_, _^_}
+use native.Mathlib.Omega.{arith}
+use lib.Dec.{lit≤, T, eqb, eqb→eq}
+use lib.ListN.{length, getD}
+use lib.IntN.{ℤ, pos, natAbs, _+ℤ_, _-ℤ_, _*ℤ_}
+use Rattle.integers.specs.Bounds.{told}
+use borrow.Author.Needs.{needs}
+use Rattle.partition.proofs.arithmetic.normal.Statement.{statement}
+use Rattle.partition.proofs.arithmetic.normal.Tie as tie
+use Rattle.partition.proofs.arithmetic.normal.Reads as reads
+use Rattle.partition.proofs.arithmetic.normal.Lts as lts
+use Rattle.partition.proofs.arithmetic.minor.Reads as minor-reads
+
+minor-requires : tie.Need-minor-requires
+minor-requires c κs = search needs
+
+minor-requires-2 : tie.Need-minor-requires-2
+minor-requires-2 c κs = search needs
+
+minor-requires-3 : tie.Need-minor-requires-3
+minor-requires-3 c κs = search needs
+
+minor-requires-4 : tie.Need-minor-requires-4
+minor-requires-4 c κs = search needs
+
+returns : tie.Need-returns
+returns c =
+    let d3 = c .before in
+    let d2 = d3 .before in
+    let d1 = d2 .before in
+    cc (told (d1 .minor .result) (d1 .minor .ok) ∙ d1 .minor .ensures, told (d2 .minor2 .result) (d2 .minor2 .ok) ∙ d2 .minor2 .ensures, told (d3 .minor3 .result) (d3 .minor3 .ok) ∙ d3 .minor3 .ensures, told (c .minor4 .result) (c .minor4 .ok) ∙ c .minor4 .ensures)
+
+pub normal-spec : {M : Type 1} → statement M
+normal-spec =
+    tie.close (tie.spec minor-requires minor-requires-2 minor-requires-3 minor-requires-4 returns)

@@ -1,0 +1,66 @@
+-- `partition::begin` meets its contract. Assumes nothing.
+use mathlib.Core.Path.{_≡_, refl, sym, _∙_, ap, ap₂, subst}
+use mathlib.Core.Bool.{Bool, true, false, not, _&&_}
+use mathlib.Core.List.{List, [], _∷_}
+use Prim.Native.Nat.{ℕ, suc, _≤_, _<_, _-_, _^_, _+_, _*_}
+use native.Mathlib.Numerals.{add-one}
+use native.Mathlib.Omega.{arith}
+use borrow.Author.Tests.{eqb-true, eqb-false, eq-eqb, ne-eqb}
+use lib.Dec.{lit≤, eqb}
+use lib.ListN.{length, getD}
+use lib.IntN.{ℤ, pos, natAbs}
+use mir.Syntax.{w64}
+use mir.Val.{toZ, ofZ}
+use mir.Facts.{toZ-ofZ}
+use Rattle.integers.specs.Bounds.{told, small}
+use Rattle.integers.specs.Linear.{ints, sizes}
+use Rattle.integers.specs.Vector.{AllWithin, all-wider, getD-within}
+use Rattle.integers.specs.Vector.{dots, isZeroV}
+use Rattle.partition.specs.Projection.{projection, multiplier, groupSize}
+use Rattle.partition.specs.Tables.{row, rows}
+use Rattle.partition.specs.Basis.{pick, Framed}
+use Rattle.partition.specs.Grouping.{extend, groupingVector, chosenVectors}
+use Rattle.partition.proofs.Exchange.{same-pick}
+use Rattle.partition.proofs.Listed.{row-within, grouping-some, grouping-none, chosen-is, extend-none, extend-more}
+use borrow.Author.Needs.{needs}
+use Rattle.partition.proofs.choice.begin.Statement.{statement}
+use Rattle.partition.proofs.choice.begin.Tie as tie
+use Rattle.partition.proofs.choice.begin.Reads as reads
+use Rattle.partition.proofs.choice.begin.Lts as lts
+use Rattle.partition.proofs.frames.extended.Reads as extended-reads
+use Rattle.partition.proofs.frames.start.Reads as start-reads
+use Rattle.partition.proofs.choice.vector.Reads as vector-reads
+
+start-requires : tie.Need-start-requires
+start-requires c κs = search needs
+
+vector-requires : tie.Need-vector-requires
+vector-requires c κs = search needs
+
+extended-requires : tie.Need-extended-requires
+extended-requires c κs =
+    let d = c .before .before .before in (c .before .before .start .ensures .0, subst (AllWithin 16) (sym (c .vector .ensures)) (row-within 16 (d .args .ds) (d .args .g) (d .pre .1 .0 .1)))
+
+returns : tie.Need-returns
+returns c =
+    let s = c .before .before .before .start in
+    let d = c .before .before .before .before in
+    let x = c .extended .ensures in (
+      x .0,
+      (
+        x .1 .0 ∙ s .ensures .1 .0,
+        x .1 .1 ∙ ap (λ (u : List (List ℤ)). extend (s .result .p) u (c .before .vector .result ∷ [])) (same-pick (s .ensures .1 .1) refl refl refl)
+            ∙ ap₂ (λ (u v : List ℤ). extend u [] (v ∷ [])) (s .ensures .1 .0) (c .before .vector .ensures)
+            ∙ grouping-some (d .args .p) (d .args .ds) (d .args .m) (d .args .g) (d .pre .1 .1 .1) (omega arith),
+      ),
+    )
+
+returns-2 : tie.Need-returns-2
+returns-2 c =
+    let s = c .before .start in
+    let d = c .before .before in
+    (s .ensures .0, (s .ensures .1 .0, same-pick (s .ensures .1 .1) refl refl refl ∙ grouping-none (d .args .p) (d .args .ds) (d .args .m) (d .args .g) (d .pre .1 .1 .1) (omega arith)))
+
+pub begin-spec : {M : Type 1} → statement M
+begin-spec =
+    tie.close (tie.spec start-requires vector-requires extended-requires returns returns-2)

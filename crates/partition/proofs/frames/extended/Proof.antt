@@ -1,0 +1,53 @@
+-- `partition::extended` meets its contract. Assumes nothing.
+use mathlib.Core.Path.{_≡_, refl, sym, _∙_, ap, ap₂, subst}
+use mathlib.Core.List.{List, [], _∷_}
+use Prim.Native.Nat.{ℕ, _≤_, _<_}
+use native.Mathlib.Omega.{arith}
+use lib.Dec.{lit≤}
+use lib.ListN.{length, getD}
+use lib.IntN.{ℤ, pos}
+use Rattle.integers.specs.Vector.{AllWithin, all-wider}
+use Rattle.integers.specs.Vector.{dots}
+use Rattle.partition.proofs.Located.{within-1, within-2, within-3}
+use Rattle.partition.proofs.Exchange.{taken-01, taken-02, taken-03, taken-12, taken-13, taken-23, left-out, not-zero, is-zero, fill-0, fill-1, fill-2, fill-3, same-pick}
+use borrow.Author.Needs.{needs}
+use Rattle.partition.proofs.frames.extended.Statement.{statement}
+use Rattle.partition.proofs.frames.extended.Tie as tie
+use Rattle.partition.proofs.frames.extended.Reads as reads
+use Rattle.partition.proofs.frames.extended.Lts as lts
+use Rattle.partition.proofs.frames.first_chosen.Reads as first-chosen-reads
+use Rattle.partition.proofs.frames.second_chosen.Reads as second-chosen-reads
+use Rattle.partition.proofs.frames.third_chosen.Reads as third-chosen-reads
+
+first-chosen-requires : tie.Need-first-chosen-requires
+first-chosen-requires c κs = search needs
+
+returns : tie.Need-returns
+returns c = search needs
+
+second-chosen-requires : tie.Need-second-chosen-requires
+second-chosen-requires c κs = search needs
+
+returns-2 : tie.Need-returns-2
+returns-2 c = search needs
+
+third-chosen-requires : tie.Need-third-chosen-requires
+third-chosen-requires c κs = search needs
+
+returns-3 : tie.Need-returns-3
+returns-3 c = search needs
+
+returns-4 : tie.Need-returns-4
+returns-4 c = let d = c .before .before .before .before .before .before in let few = d .pre .0 .few in let three : d .args .f .count ≡ 3 = omega arith in (d .pre .0, (refl, left-out (d .pre .0) (d .args .w) (omega arith) (fill-3 (d .args .f .count) (dots (d .args .f .f1) (d .args .w)) (dots (d .args .f .f2) (d .args .w)) (dots (d .args .f .f3) (d .args .w)) three)))
+
+pub extended-spec : {M : Type 1} → statement M
+extended-spec =
+    tie.close
+    (tie.spec
+    first-chosen-requires
+    returns
+    second-chosen-requires
+    returns-2
+    third-chosen-requires
+    returns-3
+    returns-4)

@@ -1,0 +1,45 @@
+-- `partition::same_class` meets its contract. Assumes nothing.
+use mathlib.Core.Path.{_≡_, refl, sym, _∙_, ap, ap₂, subst}
+use mathlib.Core.Bool.{Bool, true, false, not, _&&_}
+use mathlib.Core.List.{List, [], _∷_, map}
+use Prim.Native.Nat.{ℕ, suc, _≤_, _<_, _-_, _^_, _+_, _*_}
+use native.Mathlib.Numerals.{add-one}
+use native.Mathlib.Omega.{arith}
+use lib.ListN.{length, getD, take}
+use lib.IntN.{ℤ, pos, natAbs, _-ℤ_}
+use mir.Syntax.{w64}
+use mir.Val.{toZ, ofZ}
+use Rattle.integers.specs.Vector.{AllWithin, getD-within}
+use Rattle.integers.specs.Vector.{Vector, minus}
+use Rattle.partition.specs.Basis.{inOneClass, pick, Framed}
+use Rattle.partition.specs.Tables.{row, rows}
+use Rattle.partition.specs.Projection.{projection}
+use Rattle.partition.specs.Grouping.{isCombination}
+use Rattle.partition.proofs.ClassFacts.{minus-within, one-class}
+use borrow.Author.Needs.{needs}
+use Rattle.partition.proofs.groups.same_class.Statement.{statement}
+use Rattle.partition.proofs.groups.same_class.Tie as tie
+use Rattle.partition.proofs.groups.same_class.Reads as reads
+use Rattle.partition.proofs.groups.same_class.Lts as lts
+use Rattle.partition.proofs.groups.difference.Reads as difference-reads
+use Rattle.partition.proofs.frames.locate.Reads as locate-reads
+
+difference-requires : tie.Need-difference-requires
+difference-requires c κs = search needs
+
+locate-requires : tie.Need-locate-requires
+locate-requires c κs =
+    let d = c .before in
+    (d .pre .0, subst (AllWithin 2000) (sym (c .difference .ensures)) (minus-within (d .args .points .now) (d .args .i) (d .args .h) (d .pre .1 .1 .1)))
+
+returns : tie.Need-returns
+returns c =
+    let d = c .before .before in
+    let f = d .args .f in
+    let t = d .args .points .now in
+    c .locate .ensures .0
+    ∙ ap (λ (e : List ℤ). isCombination (map (projection (f .p)) (pick (f .count) (f .v1) (f .v2) (f .v3))) (projection (f .p) e)) (c .before .difference .ensures)
+    ∙ one-class (f .p) (f .v1) (f .v2) (f .v3) (f .count) (row t (d .args .i)) (row t (d .args .h)) (d .pre .0 .lengths .0) refl refl
+
+pub same-class-spec : {M : Type 1} → statement M
+same-class-spec = tie.close (tie.spec difference-requires locate-requires returns)
