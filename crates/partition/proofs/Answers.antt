@@ -1,13 +1,13 @@
 -- What the tables over rows of four numbers say of the nest: its groups, its blocks, and their number.
 -- Assumes nothing.
 use mathlib.Core.Path.{_≡_, refl, sym, ap, ap₂, _∙_, subst}
-use mathlib.Core.Bool.{Bool, true, false}
-use mathlib.Core.List.{List, [], _∷_, _++_, map, List·Memᴰ, List·Memᴰ·head, List·Memᴰ·tail}
-use Prim.Native.Nat.{ℕ, zero, suc, _+_, _*_, _-_, _<_, _≤_}
+use mathlib.Core.Bool.{Bool, true}
+use mathlib.Core.List.{List, [], _∷_, map, List·Memᴰ, List·Memᴰ·head, List·Memᴰ·tail}
+use Prim.Native.Nat.{ℕ, zero, suc, _*_, _-_, _<_, _≤_}
 use native.Mathlib.Nat as NatL
 use native.Mathlib.Omega.{arith}
 use lib.IntN.{ℤ, pos}
-use lib.ListN.{length, getD, drop, length-map, length-append, length-replicate}
+use lib.ListN.{length, getD, length-map, length-append, length-replicate}
 use Rattle.integers.specs.Lists.{true-T, T-true, firsts, place, place-below}
 use Rattle.integers.specs.Vector.{Vector, zeros, eqV}
 use Rattle.nest.specs.declared.LoopNest.{LoopNest}
@@ -17,7 +17,7 @@ use Rattle.nest.specs.Refusals.{refusal}
 use Rattle.partition.specs.Projection.{groupSize}
 use Rattle.partition.specs.Grouping.{Frame, frame, chosenVectors, chosenCount, sameClass, seeds, classNumber, Group, group, blocks, blockNumber}
 use Rattle.partition.specs.Partition.{frameOf, groupsOf, blocksOf, blockCount}
-use Rattle.partition.specs.Basis.{pick, Framed, basisFrame, Keyed, Grouped}
+use Rattle.partition.specs.Basis.{pick, Framed, basisFrame, Grouped}
 use Rattle.partition.specs.GroupRows.{noGroup, GroupRow, GroupTable}
 use Rattle.partition.specs.Tables.{row, rows}
 use Rattle.partition.proofs.ListFacts.{firsts-cover}

@@ -1,11 +1,9 @@
 -- What the loops over the points use: differences, one class, heads of classes. Assumes nothing.
 use mathlib.Core.Path.{_≡_, refl, sym, ap, ap₂, _∙_, subst}
-use mathlib.Core.Bool.{Bool, true, false, not, _&&_}
+use mathlib.Core.Bool.{Bool, true, false}
 use mathlib.Core.List.{List, [], _∷_, _++_, map, List·Memᴰ, List·Memᴰ·head, List·Memᴰ·tail}
 use Prim.Native.Nat.{ℕ, zero, suc, _+_, _*_, _<_, _≤_}
 use native.Mathlib.Nat as NatL
-use native.Mathlib.Omega.{arith}
-use lib.Dec.{T}
 use lib.IntN.{ℤ, pos, negsuc, natAbs, _+ℤ_, _-ℤ_, _*ℤ_}
 use lib.ListN.{length, getD, take, length-map}
 use lib.Seq.{getD-take, length-take-le}
@@ -15,7 +13,7 @@ use Rattle.integers.specs.Vector.{AllWithin, getD-within}
 use Rattle.integers.specs.Lists.{place}
 use Rattle.integers.specs.Vector.{Vector, dots, plus, times, minus, dots-minus}
 use Rattle.partition.specs.Projection.{projection}
-use Rattle.partition.specs.Grouping.{isCombination, sameClass, directions, difference, Frame}
+use Rattle.partition.specs.Grouping.{isCombination, sameClass, directions, difference}
 use Rattle.partition.specs.Basis.{pick, Framed, inOneClass}
 use Rattle.partition.specs.Tables.{row, rows}
 use Rattle.integers.specs.Lists.{T-true}

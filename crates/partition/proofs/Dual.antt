@@ -1,18 +1,17 @@
 -- The coordinates of a vector in a basis of four, by Cramer's rule, and what they say about projections. P is the time vector;
 -- a, b, c are the other vectors of the basis; each statement is by components.
 -- Assumes nothing.
-use mathlib.Core.Path.{_≡_, refl, sym, ap, ap₂, _∙_, subst}
+use mathlib.Core.Path.{_≡_, refl, _∙_}
 use mathlib.Core.Logic.{_≢_}
-use mathlib.Core.List.{List, [], _∷_}
-use Prim.Native.Nat.{ℕ, zero, suc, _+_, _*_, _<_, _≤_}
+use mathlib.Core.List.{[], _∷_}
+use Prim.Native.Nat.{ℕ, zero, suc, _+_, _*_, _<_}
 use native.Mathlib.Omega.{arith}
-use lib.IntN.{ℤ, pos, negsuc, negℤ, natAbs, _+ℤ_, _-ℤ_, _*ℤ_}
-use lib.ListN.{length, getD}
+use lib.IntN.{ℤ, pos, _+ℤ_, _-ℤ_, _*ℤ_}
 use Rattle.integers.specs.Certify.{from, fact}
 use Rattle.integers.specs.Ring.{*ℤ-cancel-l}
 use Rattle.integers.specs.Solver.{Expr, var, con, _⊕_, _⊖_, _⊗_, ring}
 use Rattle.integers.specs.Vector.{Vector}
-use Rattle.partition.specs.Basis.{minor, normal}
+use Rattle.partition.specs.Basis.{normal}
 use Rattle.partition.proofs.Vectors.{comp}
 use Rattle.partition.proofs.Four.{dot4}
 

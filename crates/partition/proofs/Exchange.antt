@@ -1,30 +1,29 @@
 -- A vector whose projection is linearly independent of the chosen ones takes the place of a unit vector: the frame that results, and
 -- the one to begin with. Assumes nothing.
-use mathlib.Core.Path.{_≡_, refl, sym, ap, ap₂, _∙_, subst}
-use mathlib.Core.Bool.{Bool, true, false, not}
-use mathlib.Core.Logic.{_≢_, _↔_}
+use mathlib.Core.Path.{_≡_, refl, sym, ap, _∙_, subst}
+use mathlib.Core.Bool.{Bool, true, false}
+use mathlib.Core.Logic.{_≢_}
 use mathlib.Core.List.{List, [], _∷_, map}
 use Prim.Native.Nat.{ℕ, zero, suc, _+_, _*_, _^_, _<_, _≤_}
-use native.Mathlib.Omega.{arith}
 use lib.Dec.{T, lit≤}
-use lib.IntN.{ℤ, pos, negsuc, negℤ, natAbs, _+ℤ_, _-ℤ_, _*ℤ_}
+use lib.IntN.{ℤ, pos, negsuc, _*ℤ_}
 use lib.Signed.{_≤ℤ_, mag}
 use mir.Syntax.{w64}
 use mir.Val.{toZ, ofZ}
 use Rattle.integers.specs.Bounds.{told}
-use lib.ListN.{length, getD}
-use Rattle.integers.specs.Linear.{ints, opp}
+use lib.ListN.{length}
+use Rattle.integers.specs.Linear.{ints}
 use Rattle.integers.specs.Lists.{true-T}
 use Rattle.integers.specs.Solver.{Expr, var, con, _⊕_, _⊖_, _⊗_, ring}
 use Rattle.integers.specs.Vector.{AllWithin}
 use Rattle.integers.specs.Vector.{Vector, dots}
 use Rattle.partition.specs.Projection.{projection}
 use Rattle.partition.specs.Grouping.{Chain, independentOf, Independent, extend}
-use Rattle.partition.specs.Basis.{minor, normal, pick, Framed, Ready, Fill}
+use Rattle.partition.specs.Basis.{normal, pick, Framed, Ready, Fill}
 use Rattle.partition.proofs.Vectors.{comp}
 use Rattle.partition.proofs.Independence.{independent-iff}
 use Rattle.partition.proofs.Four.{dot4, dot-four, length-four-projection}
-use Rattle.partition.proofs.Inside.{product-1, product-2, product-3, determinant-is, time-not-zero, lengths-are, dependent, basis-independent}
+use Rattle.partition.proofs.Inside.{product-1, product-2, product-3, time-not-zero, lengths-are, dependent, basis-independent}
 
 -- ---- determinants, as expressions
 

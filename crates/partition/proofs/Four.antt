@@ -1,14 +1,13 @@
 -- Vectors of four components: what lists of that length are, inner products and projections by components.
 -- Assumes nothing.
-use mathlib.Core.Path.{_≡_, refl, sym, ap, ap₂, _∙_, subst}
-use mathlib.Core.List.{List, [], _∷_}
-use Prim.Native.Nat.{ℕ, zero, suc, _+_, _*_, _<_, _≤_}
+use mathlib.Core.Path.{_≡_, refl, sym, ap₂, _∙_, subst}
+use mathlib.Core.List.{[], _∷_}
+use Prim.Native.Nat.{ℕ, _+_, _*_, _<_, _≤_}
 use native.Mathlib.Nat.{suc-inj, suc-ne-zero}
 use native.Mathlib.Omega.{arith}
-use lib.IntN.{ℤ, pos, negsuc, negℤ, natAbs, _+ℤ_, _-ℤ_, _*ℤ_}
-use lib.ListN.{length, getD}
-use lib.Seq.{ext-getD}
-use Rattle.integers.specs.Solver.{var, con, _⊕_, _⊖_, _⊗_, ring}
+use lib.IntN.{ℤ, pos, natAbs, _+ℤ_, _*ℤ_}
+use lib.ListN.{length}
+use Rattle.integers.specs.Solver.{var, con, _⊕_, _⊗_, ring}
 use Rattle.integers.specs.Bounds.{abs-+, abs-*, abs-sub}
 use Rattle.integers.specs.Vector.{AllWithin, getD-within}
 use Rattle.integers.specs.Vector.{Vector, dots}

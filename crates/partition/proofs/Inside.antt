@@ -3,29 +3,27 @@
 -- one more vector is linearly independent exactly if one of those along the unit vectors is not zero.
 -- Assumes nothing.
 use mathlib.Core.Path.{_≡_, refl, sym, ap, ap₂, _∙_, subst}
-use mathlib.Core.Bool.{Bool, true, false, not}
-use mathlib.Core.Logic.{_≢_, _↔_}
+use mathlib.Core.Logic.{_≢_}
 use mathlib.Core.List.{List, [], _∷_, map, List·Memᴰ, List·Memᴰ·head, List·Memᴰ·tail}
 use Prim.Native.Nat.{ℕ, zero, suc, _+_, _*_, _<_, _≤_}
 use native.Mathlib.Nat.{suc-inj, suc-ne-zero}
 use native.Mathlib.Omega.{arith}
 use lib.Dec.{T}
-use lib.IntN.{ℤ, pos, negsuc, negℤ, natAbs, _+ℤ_, _-ℤ_, _*ℤ_}
-use lib.Signed.{_≤ℤ_}
-use lib.ListN.{length, getD, replicate, length-replicate}
+use lib.IntN.{ℤ, pos, negsuc, negℤ, _+ℤ_, _-ℤ_, _*ℤ_}
+use lib.ListN.{length}
 use Rattle.integers.specs.Certify.{from, fact}
 use Rattle.integers.specs.Linear.{ints}
 use Rattle.integers.specs.Lists.{T-true}
-use Rattle.integers.specs.Ring.{zero-factor, *ℤ-cancel-l}
-use Rattle.integers.specs.Solver.{Expr, var, con, _⊕_, _⊖_, _⊗_, opp, ring}
+use Rattle.integers.specs.Ring.{*ℤ-cancel-l}
+use Rattle.integers.specs.Solver.{var, con, _⊕_, _⊖_, _⊗_, opp, ring}
 use Rattle.integers.specs.Vector.{Vector, dots}
 use Rattle.partition.specs.Projection.{projection}
-use Rattle.partition.specs.Grouping.{Chain, isCombination, coefficients, independentOf, Independent, shifted, zeroVector}
+use Rattle.partition.specs.Grouping.{isCombination, coefficients, independentOf, Independent}
 use Rattle.partition.specs.Basis.{normal, pick, Framed, Fill}
 use Rattle.partition.proofs.Vectors.{AllLength, comp, comp-projection}
 use Rattle.partition.proofs.Elimination.{sumAt, coefficients-length, coefficients-complete, combination-passes, passes-combination}
 use Rattle.partition.proofs.Classes.{projections-length}
-use Rattle.partition.proofs.Independence.{independent-iff, zero-sums, sums-zero, comp-zero}
+use Rattle.partition.proofs.Independence.{independent-iff, zero-sums, sums-zero}
 use Rattle.partition.proofs.Four.{four, dot4, dot-four, length-four-projection}
 use Rattle.partition.proofs.Dual.{projected, coordinates-make, Make, only-1, only-2, only-3, along, cramer}
 

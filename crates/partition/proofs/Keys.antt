@@ -1,15 +1,14 @@
 -- Groups as four numbers. Assumes nothing.
-use mathlib.Core.Path.{_≡_, refl, sym, ap, ap₂, _∙_, subst}
-use mathlib.Core.Bool.{Bool, true, false}
-use mathlib.Core.List.{List, [], _∷_, map}
-use Prim.Native.Nat.{ℕ, zero, suc, _+_, _*_, _/_, _<_, _≤_}
+use mathlib.Core.Path.{_≡_, refl, sym, ap, _∙_, subst}
+use mathlib.Core.List.{[], _∷_, map}
+use Prim.Native.Nat.{ℕ, zero, suc}
 use native.Mathlib.Nat as NatL
-use lib.IntN.{ℤ, pos, negsuc, natAbs}
-use lib.ListN.{length, getD}
+use lib.IntN.{ℤ, pos}
+use lib.ListN.{length}
 use Rattle.integers.specs.Division.{floorDiv}
 use Rattle.integers.specs.Vector.{Vector, minus}
 use Rattle.partition.specs.Projection.{projection}
-use Rattle.partition.specs.Grouping.{isCombination, coefficients, coordinates, directions, difference, quotients, sameClass}
+use Rattle.partition.specs.Grouping.{coefficients, coordinates, directions, difference, quotients}
 use Rattle.partition.specs.Basis.{pick, Fill, Keyed, basisFrame}
 use Rattle.partition.proofs.ClassFacts.{projection-minus}
 

@@ -1,21 +1,20 @@
 -- Lists of vectors from a flat table, one more at a time. Assumes nothing.
-use mathlib.Core.Path.{_≡_, refl, sym, ap, ap₂, _∙_, subst}
+use mathlib.Core.Path.{_≡_, refl, sym, ap, _∙_, subst}
 use mathlib.Core.Bool.{Bool, true, false, not, _&&_}
 use mathlib.Core.List.{List, [], _∷_, _++_, map}
-use Prim.Native.Nat.{ℕ, zero, suc, _+_, _*_, _^_, _<_, _≤_, max}
+use Prim.Native.Nat.{ℕ, zero, suc, _+_, _*_, _<_, _≤_, max}
 use native.Mathlib.Nat as NatL
 use native.Mathlib.Omega.{arith}
 use borrow.Author.Tests.{ltb-true, ltb-false}
-use lib.Dec.{T, T-not, ltb, eqb}
-use lib.IntN.{ℤ, pos, negsuc, natAbs}
+use lib.Dec.{T, ltb, eqb}
+use lib.IntN.{ℤ, pos}
 use lib.Signed.{ltZ}
 use lib.ListN.{length, getD}
 use mir.Syntax.{w64}
-use mir.Val.{SFits, toZ, ofZ}
-use mir.Facts.{toZ-ofZ}
+use mir.Val.{ofZ}
 use Rattle.integers.specs.Vector.{AllWithin, getD-within}
-use Rattle.integers.specs.Lists.{greatest, place, all, first}
-use Rattle.integers.specs.Vector.{Vector, isZeroV, eqZ}
+use Rattle.integers.specs.Lists.{greatest, place, first}
+use Rattle.integers.specs.Vector.{Vector, isZeroV}
 use Rattle.partition.specs.Projection.{multiplier, groupSize, projection}
 use Rattle.partition.specs.Grouping.{extend, independentOf, mayGroup, remainder, groupingVector, chosenVectors}
 use Rattle.partition.specs.Periods.{maxZ}

@@ -1,13 +1,13 @@
 -- What `locate` answers, from the tests along the three vectors. Assumes nothing.
-use mathlib.Core.Path.{_≡_, refl, sym, ap, ap₂, _∙_, subst}
-use mathlib.Core.Bool.{Bool, true, false, not, _&&_}
-use mathlib.Core.List.{List, [], _∷_, map}
-use Prim.Native.Nat.{ℕ, zero, suc, _+_, _*_, _<_, _≤_}
+use mathlib.Core.Path.{_≡_, refl, sym, ap, _∙_, subst}
+use mathlib.Core.Bool.{Bool, true, false, _&&_}
+use mathlib.Core.List.{map}
+use Prim.Native.Nat.{ℕ, zero, suc, _*_, _≤_}
 use native.Mathlib.Omega.{arith}
 use lib.Dec.{T, ltb, lt→ltb, lit≤}
-use lib.IntN.{ℤ, pos, natAbs, _+ℤ_, _-ℤ_, _*ℤ_, zero-*ℤ}
+use lib.IntN.{ℤ, pos, natAbs, _*ℤ_, zero-*ℤ}
 use lib.Signed.{quotZ}
-use lib.ListN.{length, getD}
+use lib.ListN.{length}
 use Rattle.integers.specs.Vector.{AllWithin, all-wider}
 use Rattle.integers.specs.Vector.{Vector, dots}
 use Rattle.partition.specs.Projection.{projection}

@@ -1,44 +1,40 @@
 -- The vectors of an accepted nest as rows of four numbers, with zeros behind the depth: their lengths and sizes, and that they have the nest's groups.
 -- Assumes nothing.
 use mathlib.Core.Path.{_≡_, refl, sym, ap, ap₂, _∙_, subst}
-use mathlib.Core.Logic.{_⊎_, inl, inr, ⊎-elim}
+use mathlib.Core.Logic.{_⊎_, inl, inr}
 use mathlib.Core.Bool.{Bool, true, false}
 use mathlib.Core.List.{List, [], _∷_, _++_, map}
 use Prim.Native.Nat.{ℕ, zero, suc, _+_, _*_, _-_, _<_, _≤_, zero-le}
 use native.Mathlib.Nat as NatL
 use native.Mathlib.Omega.{arith}
-use borrow.Author.Tests.{ltb-true, ltb-false}
-use lib.Dec.{ltb}
-use lib.IntN.{ℤ, pos, negsuc, negℤ, natAbs, _+ℤ_, _*ℤ_}
+use lib.IntN.{ℤ, pos, negsuc, natAbs, _*ℤ_}
 use lib.Signed.{_≤ℤ_}
-use lib.ListN.{length, getD, set, replicate, length-replicate, length-map}
+use lib.ListN.{length, getD, set, replicate, length-map}
 use lib.Seq.{ext-getD}
-use Rattle.integers.specs.Linear.{ints, sizes, sum}
+use Rattle.integers.specs.Linear.{ints, sum}
 use Rattle.integers.specs.Order.{square-nonneg}
-use Rattle.integers.specs.Lists.{any, tab, greatest, firstFrom, clash, split, T-true, true-T, length-tab, getD-tab, tab-same, tab-list, tab-more, map-tab, below-or-not, any-at, place-below}
+use Rattle.integers.specs.Lists.{any, tab, greatest, firstFrom, clash, length-tab, getD-tab, tab-same, tab-list, tab-more, map-tab, below-or-not, any-at}
 use Rattle.integers.specs.Vector.{Vector, dots, zeros, AllWithin, eqZ-same, eqV, eqV-refl}
 use Rattle.nest.specs.declared.LoopNest.{LoopNest}
-use Rattle.nest.specs.Nest.{Limit, part, padded, depthOf, countOf, limitsOf, timeOf, dependenceAt, dependencesOf, maxDepth, maxLimit, maxComponent}
-use Rattle.nest.specs.Points.{points, pointsOf, pointCount, isPoint, Inside}
+use Rattle.nest.specs.Nest.{Limit, part, padded, depthOf, countOf, limitsOf, timeOf, dependenceAt, dependencesOf, maxDepth}
+use Rattle.nest.specs.Points.{points, pointsOf, isPoint, Inside}
 use Rattle.nest.specs.Refusals.{refusal, holds, badTime, zeroTime}
 use Rattle.nest.proofs.Accepted.{depth-is, count-is, component-size}
 use Rattle.nest.proofs.Order.{point-count, point-inside}
 use Rattle.nest.proofs.Padding.{at-padded, length-padded, padded-none, padded-set}
 use Rattle.nest.proofs.Refused.{accepted}
 use Rattle.nest.proofs.Sources.{limits-length, index-size}
-use Rattle.nest.proofs.Spans.{spans}
 use Rattle.nest.proofs.Vectors.{part-inside}
 use Rattle.nest.proofs.Words.{part-length}
-use Rattle.partition.specs.Projection.{makesWhole, multiplier, groupSize, projection}
-use Rattle.partition.specs.Grouping.{Frame, frame, chosenVectors, chosenCount, seeds, classNumber, sameClass, Group, group}
-use Rattle.partition.specs.Partition.{frameOf, groupsOf}
+use Rattle.partition.specs.Projection.{makesWhole, multiplier, groupSize}
+use Rattle.partition.specs.Grouping.{chosenVectors}
 use Rattle.partition.specs.Tables.{row, rows, putRow}
 use Rattle.partition.proofs.Vectors.{AllLength}
 use Rattle.partition.proofs.Four.{dot-within}
 use Rattle.partition.proofs.KeyTable.{put-row, row-other, put-length, put-within}
 use Rattle.partition.proofs.ClassFacts.{getD-map}
-use Rattle.partition.proofs.Listed.{length-rows, getD-rows, greatest-cons}
-use Rattle.partition.proofs.Padded.{pad, padFrame, dots-pad, groupSize-pad, chosen-pad, chosen-length}
+use Rattle.partition.proofs.Listed.{greatest-cons}
+use Rattle.partition.proofs.Padded.{pad, dots-pad, groupSize-pad, chosen-pad, chosen-length}
 
 -- ---- rows of a table that is filled from the front
 

@@ -1,16 +1,15 @@
 -- Numbering by first element: one more element at a time. Assumes nothing.
 use mathlib.Core.Path.{_≡_, refl, sym, ap, ap₂, _∙_, subst}
-use mathlib.Core.Bool.{Bool, true, false, not, _&&_}
+use mathlib.Core.Bool.{Bool, true, false}
 use mathlib.Core.Logic.{_⊎_, inl, inr}
 use mathlib.Core.List.{List, [], _∷_, _++_, map, List·Memᴰ, List·Memᴰ·head, List·Memᴰ·tail}
-use Prim.Native.Nat.{ℕ, zero, suc, _+_, _*_, _<_, _≤_}
+use Prim.Native.Nat.{ℕ, zero, suc, _+_, _<_, _≤_}
 use native.Mathlib.Nat as NatL
 use native.Mathlib.Omega.{arith}
 use lib.Dec.{T}
-use lib.ListN.{length, getD, set, take, drop}
-use Rattle.integers.specs.Lists.{T-true, true-T, any, place, firsts, firstsAfter}
+use lib.ListN.{length, set, take, drop}
+use Rattle.integers.specs.Lists.{any, place, firsts, firstsAfter}
 use Rattle.partition.proofs.ListFacts.{any-here, any-later, any-cons, firsts-cover}
-use Rattle.partition.proofs.Listed.{length-snoc}
 
 module _ {A : Type 0} where
   none-head : (p : A → Bool) (y : A) (ys : List A) → any p (y ∷ ys) ≡ false → p y ≡ false

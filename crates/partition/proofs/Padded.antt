@@ -5,16 +5,15 @@ use mathlib.Core.Bool.{Bool, true, false, not, _&&_}
 use mathlib.Core.List.{List, [], _∷_, _++_, map}
 use Prim.Native.Nat.{ℕ, zero, suc, _+_, _<_, _≤_, _%_}
 use native.Mathlib.Nat as NatL
-use native.Mathlib.Omega.{arith}
 use borrow.Author.Tests.{eq-eqb}
 use lib.Dec.{eqb}
-use lib.IntN.{ℤ, pos, negsuc, natAbs, _+ℤ_, _*ℤ_, *ℤ-zero}
+use lib.IntN.{ℤ, pos, negsuc, natAbs, _+ℤ_, _*ℤ_}
 use lib.Signed.{quotZ}
-use lib.ListN.{length, getD, replicate, length-replicate}
+use lib.ListN.{length, getD, length-replicate}
 use Rattle.integers.specs.Lists.{all, any, first, firsts, firstsAfter, place, greatest, firstFrom}
 use Rattle.integers.specs.Vector.{Vector, zeros, eqZ, eqZ-refl, isZeroV, dots, plus, times, minus, dots-zeros, times-zeros, plus-zeros, length-times}
 use Rattle.partition.specs.Projection.{projection, divides, makesWhole, multiplier, groupSize}
-use Rattle.partition.specs.Grouping.{pivot, clear, remainder, independentOf, mayGroup, groupingVector, extend, chosenVectors, latest, coefficients, left, isCombination, Frame, frame, directions, difference, sameClass, coordinates, seeds, classNumber, quotients, Group, group}
+use Rattle.partition.specs.Grouping.{pivot, clear, remainder, independentOf, mayGroup, groupingVector, extend, chosenVectors, latest, coefficients, left, isCombination, Frame, frame, directions, difference, sameClass, coordinates, seeds, classNumber, quotients, group}
 use Rattle.partition.proofs.Vectors.{AllLength, length-minus, length-projection}
 use Rattle.partition.proofs.Elimination.{remainder-length, length-less}
 use Rattle.partition.proofs.Classes.{projections-length}

@@ -1,14 +1,12 @@
 -- How large the vectors of a frame are, and an array's element as the machine reads it. Assumes nothing.
-use mathlib.Core.Path.{_≡_, refl, sym, ap, ap₂, _∙_, subst}
+use mathlib.Core.Path.{_≡_, refl, sym, subst}
 use mathlib.Core.List.{List, [], _∷_}
-use Prim.Native.Nat.{ℕ, zero, suc, _+_, _*_, _^_, _<_, _≤_}
-use native.Mathlib.Omega.{arith}
-use lib.Dec.{lit≤}
-use lib.IntN.{ℤ, pos, natAbs, _+ℤ_, _-ℤ_, _*ℤ_}
-use lib.ListN.{length, getD}
+use Prim.Native.Nat.{ℕ, _^_, _<_, _≤_}
+use lib.IntN.{ℤ, pos, natAbs}
+use lib.ListN.{getD}
 use Rattle.integers.specs.Bounds.{back}
 use Rattle.integers.specs.Machine.{boundG, reads}
-use Rattle.integers.specs.Solver.{var, con, _⊕_, _⊖_, _⊗_}
+use Rattle.integers.specs.Solver.{var, _⊕_, _⊖_, _⊗_}
 use Rattle.integers.specs.Vector.{AllWithin, getD-within}
 use Rattle.integers.specs.Vector.{Vector}
 use Rattle.partition.specs.Basis.{minor, normal}

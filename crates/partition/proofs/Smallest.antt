@@ -1,15 +1,15 @@
 -- The smallest positive number by which a projection becomes whole: the search of `specs/Projection.antt` and the period of the
 -- components find the same. Assumes nothing.
-use mathlib.Core.Path.{_≡_, refl, sym, ap, ap₂, _∙_, subst}
+use mathlib.Core.Path.{_≡_, refl, sym, ap, _∙_, subst}
 use mathlib.Core.Bool.{Bool, true, false}
 use mathlib.Core.Logic.{_⊎_, inl, inr, ⊎-elim}
 use mathlib.Core.List.{List, [], _∷_}
-use Prim.Native.Nat.{ℕ, zero, suc, _+_, _*_, _%_, _<_, _≤_}
+use Prim.Native.Nat.{ℕ, zero, suc, _+_, _%_, _<_, _≤_}
 use native.Mathlib.Nat as NatL
 use native.Mathlib.Omega.{arith}
 use lib.Dec.{T, eqb, eqb→eq, eqb-refl}
-use lib.IntN.{ℤ, pos, negsuc, natAbs, _+ℤ_, _-ℤ_, _*ℤ_}
-use lib.Signed.{_≤ℤ_, _<ℤ_, remZ}
+use lib.IntN.{ℤ, pos, negsuc, natAbs}
+use lib.Signed.{_≤ℤ_, remZ}
 use lib.ListN.{length, getD}
 use Rattle.integers.specs.Division.{Divides, rem-size, zero-size, rem-zero→divides, divides→rem-zero}
 use Rattle.integers.specs.Linear.{ints, sizes}
@@ -17,7 +17,7 @@ use Rattle.partition.specs.Periods.{Serves, PeriodAll}
 use Rattle.integers.specs.Lists.{all, firstFrom}
 use Rattle.integers.specs.Vector.{Vector, dots, times, getD-times, length-times}
 use Rattle.partition.specs.Projection.{projection, divides, makesWhole, multiplier}
-use Rattle.partition.proofs.ListFacts.{both, firstFrom-least}
+use Rattle.partition.proofs.ListFacts.{both}
 use Rattle.partition.proofs.Vectors.{comp}
 
 -- a number that passes, with none before it that does, is the one found

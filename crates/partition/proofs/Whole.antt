@@ -1,21 +1,20 @@
 -- Division by a number that is not zero, of either sign, where it leaves no remainder. Assumes nothing.
-use mathlib.Core.Path.{_≡_, refl, sym, ap, ap₂, _∙_, subst}
-use mathlib.Core.Bool.{Bool, true, false, not}
+use mathlib.Core.Path.{_≡_, refl, sym, ap, _∙_, subst}
+use mathlib.Core.Bool.{not}
 use mathlib.Core.Logic.{_≢_}
-use mathlib.Core.List.{List, [], _∷_}
-use Prim.Native.Nat.{ℕ, zero, suc, _+_, _*_, _/_, _%_, _^_, _<_, _≤_}
+use Prim.Native.Nat.{ℕ, zero, suc, _*_, _/_, _<_, _≤_}
 use native.Mathlib.Nat as NatL
 use native.Mathlib.Omega.{arith}
 use lib.Dec.{T, not-T}
-use lib.IntN.{ℤ, pos, negsuc, negℤ, natAbs, _+ℤ_, _-ℤ_, _*ℤ_}
-use lib.Signed.{_≤ℤ_, quotZ, remZ}
+use lib.IntN.{ℤ, pos, negsuc, negℤ, natAbs, _*ℤ_}
+use lib.Signed.{quotZ, remZ}
 use mir.Syntax.{w64}
 use mir.Val.{SFits, toZ, ofZ}
 use Rattle.integers.specs.Bounds.{small, back}
 use Rattle.integers.specs.Division.{Divides, rem-size, zero-size, rem-zero→divides, divides→rem-zero}
-use Rattle.integers.specs.Linear.{ints, sizes}
+use Rattle.integers.specs.Linear.{ints}
 use Rattle.integers.specs.Vector.{eqZ}
-use Rattle.integers.specs.Ring.{natAbs-neg, neg-*-neg, neg-*, *-neg}
+use Rattle.integers.specs.Ring.{natAbs-neg, neg-*-neg}
 use Rattle.partition.proofs.Elimination.{quot-exact}
 use Rattle.partition.proofs.Vectors.{isZero→}
 

@@ -1,6 +1,6 @@
 -- The partition of a loop nest: for each iteration, in loop order, its step, its group and its block.
 -- Assumes nothing.
-use mathlib.Core.List.{List, [], _∷_, map}
+use mathlib.Core.List.{List, map}
 use Prim.Native.Nat.{ℕ, _+_}
 use lib.ListN.{length}
 use Rattle.integers.specs.Lists.{greatest}

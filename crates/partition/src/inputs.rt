@@ -7,7 +7,7 @@ use crate::groups::put_row;
 use nest::LoopNest;
 ghost use mathlib.Core.Path.{_≡_};
 ghost use mathlib.Core.List.{map};
-ghost use Prim.Native.Nat.{_+_, _*_, _<_, _≤_};
+ghost use Prim.Native.Nat.{_+_, _*_, _≤_};
 ghost use lib.ListN.{length};
 ghost use Rattle.integers.specs.Vector.{AllWithin};
 ghost use Rattle.nest.specs.Nest.{part, padded, depthOf, countOf, timeOf, dependencesOf};

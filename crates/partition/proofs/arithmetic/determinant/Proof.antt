@@ -2,7 +2,7 @@
 use mathlib.Core.List.{List, [], _∷_}
 use Prim.Native.Nat.{ℕ}
 use lib.IntN.{ℤ}
-use Rattle.integers.specs.Solver.{Expr, var, con, _⊕_, _⊖_, _⊗_}
+use Rattle.integers.specs.Solver.{Expr, var, _⊕_, _⊖_, _⊗_}
 use Rattle.integers.specs.Machine.{Within, fits, read}
 use Rattle.partition.proofs.arithmetic.determinant.Statement.{statement}
 use Rattle.partition.proofs.arithmetic.determinant.Tie as tie

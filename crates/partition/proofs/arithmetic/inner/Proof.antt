@@ -1,13 +1,13 @@
 -- `partition::inner` meets its contract. Assumes nothing.
-use mathlib.Core.Path.{_≡_, refl, sym, _∙_, ap, subst}
+use mathlib.Core.Path.{sym, _∙_}
 use mathlib.Core.List.{List, [], _∷_}
-use Prim.Native.Nat.{ℕ, _≤_, _<_}
+use Prim.Native.Nat.{ℕ, _≤_}
 use native.Mathlib.Omega.{arith}
 use borrow.Author.Needs.{needs}
-use lib.ListN.{length, getD}
+use lib.ListN.{getD}
 use lib.IntN.{ℤ, pos, natAbs}
 use Rattle.integers.specs.Machine.{Within, fits, read}
-use Rattle.integers.specs.Solver.{Expr, var, _⊕_, _⊖_, _⊗_}
+use Rattle.integers.specs.Solver.{Expr, var, _⊕_, _⊗_}
 use Rattle.integers.specs.Vector.{getD-within}
 use Rattle.partition.proofs.Four.{dot-four}
 use Rattle.partition.proofs.arithmetic.inner.Statement.{statement}

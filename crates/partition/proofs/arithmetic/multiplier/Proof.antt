@@ -1,13 +1,9 @@
 -- `partition::multiplier` meets its contract. Assumes nothing.
-use mathlib.Core.Path.{_≡_, refl, sym, _∙_, ap, ap₂, subst}
+use mathlib.Core.Path.{sym, _∙_, subst}
 use native.Mathlib.Omega.{arith}
 use lib.Dec.{lit≤}
-use lib.ListN.{length}
-use lib.IntN.{pos, natAbs}
 use Rattle.integers.specs.Bounds.{told}
 use Rattle.integers.specs.Vector.{all-wider, AllWithin}
-use Rattle.partition.specs.Periods.{PeriodAll}
-use Rattle.integers.specs.Vector.{dots}
 use Rattle.partition.specs.Projection.{projection}
 use Rattle.partition.proofs.Four.{dot-within, projection-within, length-four-projection}
 use Rattle.partition.proofs.Smallest.{period-multiplier}

@@ -1,16 +1,15 @@
 -- `partition::project` meets its contract. Assumes nothing.
-use mathlib.Core.Path.{_≡_, refl, sym, _∙_, ap, ap₂, subst}
+use mathlib.Core.Path.{_≡_, sym, _∙_, ap₂}
 use mathlib.Core.List.{List, [], _∷_}
-use Prim.Native.Nat.{ℕ, _≤_, _<_}
+use Prim.Native.Nat.{ℕ, _≤_}
 use native.Mathlib.Omega.{arith}
 use borrow.Author.Needs.{needs}
 use lib.Dec.{lit≤}
-use lib.ListN.{length, getD}
+use lib.ListN.{getD}
 use lib.IntN.{ℤ, pos, natAbs, _-ℤ_, _*ℤ_}
 use Rattle.integers.specs.Machine.{Within, fits, read}
-use Rattle.integers.specs.Solver.{Expr, var, _⊕_, _⊖_, _⊗_}
+use Rattle.integers.specs.Solver.{Expr, var, _⊖_, _⊗_}
 use Rattle.integers.specs.Vector.{getD-within, all-wider}
-use Rattle.integers.specs.Vector.{dots}
 use Rattle.partition.specs.Projection.{projection}
 use Rattle.partition.proofs.Vectors.{comp, comp-projection}
 use Rattle.partition.proofs.Four.{dot-within, four-is, length-four-projection}

@@ -1,22 +1,20 @@
 -- `partition::serves` meets its contract. The loop's invariant: s divides each entry of k * x that was passed. Assumes nothing.
-use mathlib.Core.Path.{_≡_, refl, sym, _∙_, ap, subst}
-use mathlib.Core.Bool.{true, false}
+use mathlib.Core.Path.{sym, subst}
 use mathlib.Core.List.{List, [], _∷_}
-use Prim.Native.Nat.{ℕ, _≤_, _-_, _+_, _<_}
+use Prim.Native.Nat.{ℕ, _≤_, _-_, _<_}
 use native.Mathlib.Omega.{arith}
 use borrow.Author.Count.{below-more}
 use lib.Dec.{T}
 use lib.ListN.{getD}
-use lib.IntN.{ℤ, pos, natAbs, _*ℤ_}
+use lib.IntN.{ℤ, pos, _*ℤ_}
 use mir.Syntax.{w64}
-use mir.Val.{toZ, ofZ}
+use mir.Val.{toZ}
 use mir.Facts.{toZ-ofZ}
 use Rattle.integers.specs.Bounds.{Has}
 use Rattle.integers.specs.Division.{Divides, need-rem, divides-yes, divides-no}
-use Rattle.integers.specs.Machine.{Within, Given, given, reads, fits, hasG, allRead}
+use Rattle.integers.specs.Machine.{Within, given, reads, fits, hasG, allRead}
 use Rattle.integers.specs.Solver.{var, _⊗_}
 use Rattle.integers.specs.Vector.{getD-within}
-use Rattle.partition.specs.Periods.{Serves}
 use Rattle.partition.proofs.arithmetic.serves.Statement.{statement}
 use Rattle.partition.proofs.arithmetic.serves.Tie as tie
 use Rattle.partition.proofs.arithmetic.serves.Reads as reads

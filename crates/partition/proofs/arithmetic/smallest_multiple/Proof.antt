@@ -1,6 +1,6 @@
 -- `partition::smallest_multiple` meets its contract. Assumes nothing.
-use mathlib.Core.Path.{_≡_, refl, sym, _∙_, ap, subst}
-use mathlib.Core.List.{List, [], _∷_}
+use mathlib.Core.Path.{_≡_, _∙_, ap}
+use mathlib.Core.List.{[], _∷_}
 use Prim.Native.Nat.{ℕ, _≤_, _-_, _+_, _<_}
 use native.Mathlib.Omega.{arith}
 use lib.Arith.{lt-of-le-ne}
@@ -10,12 +10,12 @@ use lib.Signed.{_≤ℤ_, _<ℤ_}
 use mir.Syntax.{w64}
 use mir.Val.{toZ, ofZ}
 use mir.Facts.{toZ-ofZ, toZ-pos}
-use Rattle.integers.specs.Division.{Divides, bits-pos, bits-nat}
+use Rattle.integers.specs.Division.{bits-pos, bits-nat}
 use Rattle.integers.specs.Linear.{ints, sizes}
 use Rattle.partition.proofs.Smallest.{upto-more}
 use Rattle.integers.specs.Machine.{Given, reads, fitsG}
 use Rattle.integers.specs.Solver.{var, con, _⊕_}
-use Rattle.partition.specs.Periods.{Serves, PeriodAll}
+use Rattle.partition.specs.Periods.{Serves}
 use Rattle.partition.proofs.arithmetic.smallest_multiple.Statement.{statement}
 use Rattle.partition.proofs.arithmetic.smallest_multiple.Tie as tie
 use Rattle.partition.proofs.arithmetic.smallest_multiple.Reads as reads

@@ -1,27 +1,15 @@
 -- `partition::choose` meets its contract. Assumes nothing.
 use mathlib.Core.Path.{_≡_, refl, sym, _∙_, ap, ap₂, subst}
-use mathlib.Core.Bool.{Bool, true, false, not, _&&_}
 use mathlib.Core.List.{List, [], _∷_}
-use Prim.Native.Nat.{ℕ, suc, _≤_, _<_, _-_, _^_, _+_, _*_}
+use Prim.Native.Nat.{ℕ, _≤_, _-_}
 use native.Mathlib.Numerals.{add-one}
 use native.Mathlib.Omega.{arith}
-use borrow.Author.Tests.{eqb-true, eqb-false, eq-eqb, ne-eqb}
-use lib.Dec.{lit≤, eqb}
-use lib.ListN.{length, getD}
-use lib.IntN.{ℤ, pos, natAbs}
-use mir.Syntax.{w64}
-use mir.Val.{toZ, ofZ}
-use mir.Facts.{toZ-ofZ}
-use Rattle.integers.specs.Bounds.{told, small}
-use Rattle.integers.specs.Linear.{ints, sizes}
-use Rattle.integers.specs.Vector.{AllWithin, all-wider, getD-within}
-use Rattle.integers.specs.Vector.{dots, isZeroV}
-use Rattle.partition.specs.Projection.{projection, multiplier, groupSize}
-use Rattle.partition.specs.Tables.{row, rows}
+use lib.IntN.{ℤ}
+use Rattle.integers.specs.Vector.{AllWithin}
+use Rattle.partition.specs.Tables.{rows}
 use Rattle.partition.specs.Basis.{pick, Framed}
-use Rattle.partition.specs.Grouping.{extend, groupingVector, chosenVectors}
-use Rattle.partition.proofs.Exchange.{same-pick}
-use Rattle.partition.proofs.Listed.{row-within, grouping-some, grouping-none, chosen-is, extend-none, extend-more}
+use Rattle.partition.specs.Grouping.{extend, groupingVector}
+use Rattle.partition.proofs.Listed.{row-within, chosen-is, extend-none, extend-more}
 use Rattle.partition.proofs.choice.choose.Statement.{statement}
 use Rattle.partition.proofs.choice.choose.Tie as tie
 use Rattle.partition.proofs.choice.choose.Reads as reads

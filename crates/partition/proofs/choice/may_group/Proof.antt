@@ -1,24 +1,20 @@
 -- `partition::may_group` meets its contract. Assumes nothing.
-use mathlib.Core.Path.{_≡_, refl, sym, _∙_, ap, ap₂, subst}
-use mathlib.Core.Bool.{Bool, true, false, not, _&&_}
-use mathlib.Core.List.{List, [], _∷_}
-use Prim.Native.Nat.{ℕ, suc, _≤_, _<_, _-_, _^_, _+_, _*_}
-use native.Mathlib.Numerals.{add-one}
+use mathlib.Core.Path.{_≡_, refl, sym, _∙_, ap, subst}
+use mathlib.Core.Bool.{not}
+use Prim.Native.Nat.{_≤_, _-_}
 use native.Mathlib.Omega.{arith}
-use borrow.Author.Tests.{eqb-true, eqb-false, eq-eqb, ne-eqb}
-use lib.Dec.{lit≤, eqb}
-use lib.ListN.{length, getD}
-use lib.IntN.{ℤ, pos, natAbs}
+use borrow.Author.Tests.{eq-eqb, ne-eqb}
+use lib.Dec.{lit≤}
+use lib.IntN.{pos, natAbs}
 use mir.Syntax.{w64}
 use mir.Val.{toZ, ofZ}
 use mir.Facts.{toZ-ofZ}
-use Rattle.integers.specs.Bounds.{told, small}
+use Rattle.integers.specs.Bounds.{told}
 use Rattle.integers.specs.Linear.{ints, sizes}
-use Rattle.integers.specs.Vector.{AllWithin, all-wider, getD-within}
-use Rattle.integers.specs.Vector.{dots, isZeroV}
-use Rattle.partition.specs.Projection.{projection, multiplier, groupSize}
+use Rattle.integers.specs.Vector.{AllWithin, all-wider}
+use Rattle.integers.specs.Vector.{isZeroV}
+use Rattle.partition.specs.Projection.{projection, multiplier}
 use Rattle.partition.proofs.Four.{projection-within}
-use Rattle.partition.specs.Tables.{row, rows}
 use borrow.Author.Needs.{needs}
 use Rattle.partition.proofs.choice.may_group.Statement.{statement}
 use Rattle.partition.proofs.choice.may_group.Tie as tie

@@ -1,23 +1,11 @@
 -- `partition::vector` meets its contract. Assumes nothing.
-use mathlib.Core.Path.{_≡_, refl, sym, _∙_, ap, ap₂, subst}
-use mathlib.Core.Bool.{Bool, true, false, not, _&&_}
-use mathlib.Core.List.{List, [], _∷_}
-use Prim.Native.Nat.{ℕ, suc, _≤_, _<_, _-_, _^_, _+_, _*_}
-use native.Mathlib.Numerals.{add-one}
+use mathlib.Core.Path.{_≡_}
+use Prim.Native.Nat.{ℕ, _-_, _+_, _*_}
 use native.Mathlib.Omega.{arith}
-use borrow.Author.Tests.{eqb-true, eqb-false, eq-eqb, ne-eqb}
-use lib.Dec.{lit≤, eqb}
-use lib.ListN.{length, getD}
-use lib.IntN.{ℤ, pos, natAbs}
+use lib.ListN.{getD}
+use lib.IntN.{pos}
 use mir.Syntax.{w64}
 use mir.Val.{toZ, ofZ}
-use mir.Facts.{toZ-ofZ}
-use Rattle.integers.specs.Bounds.{told, small}
-use Rattle.integers.specs.Linear.{ints, sizes}
-use Rattle.integers.specs.Vector.{AllWithin, all-wider, getD-within}
-use Rattle.integers.specs.Vector.{dots, isZeroV}
-use Rattle.partition.specs.Projection.{projection, multiplier, groupSize}
-use Rattle.partition.specs.Tables.{row, rows}
 use Rattle.partition.proofs.Sizes.{element}
 use borrow.Author.Needs.{needs}
 use Rattle.partition.proofs.choice.vector.Statement.{statement}

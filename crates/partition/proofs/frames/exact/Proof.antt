@@ -1,19 +1,16 @@
 -- `partition::exact` meets its contract. Assumes nothing.
-use mathlib.Core.Path.{_≡_, refl, sym, _∙_, ap, ap₂, subst}
-use mathlib.Core.Bool.{Bool, true, false, _&&_}
-use mathlib.Core.List.{List, [], _∷_}
-use Prim.Native.Nat.{ℕ, _≤_, _<_, _^_}
+use mathlib.Core.Path.{_≡_, sym, _∙_, ap}
+use mathlib.Core.Bool.{true}
 use native.Mathlib.Omega.{arith}
-use lib.Dec.{lit≤, T, eqb, eqb→eq}
-use lib.ListN.{length, getD}
-use lib.IntN.{ℤ, pos, natAbs, _+ℤ_, _-ℤ_, _*ℤ_}
+use lib.Dec.{eqb}
+use lib.IntN.{ℤ, pos, _*ℤ_}
 use lib.IntN.{zero-*ℤ}
-use lib.Signed.{quotZ, remZ}
+use lib.Signed.{remZ}
 use mir.Syntax.{w64}
-use mir.Val.{toZ, ofZ}
+use mir.Val.{ofZ}
 use mir.Facts.{sfits-lit}
 use borrow.Author.Tests.{eqb-true, eqb-false}
-use Rattle.integers.specs.Bounds.{told, back, op-is}
+use Rattle.integers.specs.Bounds.{back, op-is}
 use Rattle.integers.specs.Machine.{reads}
 use Rattle.integers.specs.Tests.{same}
 use Rattle.partition.proofs.Whole.{bits-nonzero, quot-fits, rem-fits, whole-yes, whole-no}

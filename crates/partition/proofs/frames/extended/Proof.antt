@@ -1,15 +1,8 @@
 -- `partition::extended` meets its contract. Assumes nothing.
-use mathlib.Core.Path.{_≡_, refl, sym, _∙_, ap, ap₂, subst}
-use mathlib.Core.List.{List, [], _∷_}
-use Prim.Native.Nat.{ℕ, _≤_, _<_}
+use mathlib.Core.Path.{_≡_, refl}
 use native.Mathlib.Omega.{arith}
-use lib.Dec.{lit≤}
-use lib.ListN.{length, getD}
-use lib.IntN.{ℤ, pos}
-use Rattle.integers.specs.Vector.{AllWithin, all-wider}
 use Rattle.integers.specs.Vector.{dots}
-use Rattle.partition.proofs.Located.{within-1, within-2, within-3}
-use Rattle.partition.proofs.Exchange.{taken-01, taken-02, taken-03, taken-12, taken-13, taken-23, left-out, not-zero, is-zero, fill-0, fill-1, fill-2, fill-3, same-pick}
+use Rattle.partition.proofs.Exchange.{left-out, fill-3}
 use borrow.Author.Needs.{needs}
 use Rattle.partition.proofs.frames.extended.Statement.{statement}
 use Rattle.partition.proofs.frames.extended.Tie as tie

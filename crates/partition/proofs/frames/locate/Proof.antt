@@ -1,11 +1,10 @@
 -- `partition::locate` meets its contract. Assumes nothing.
-use mathlib.Core.Path.{_≡_, refl, sym, _∙_, ap, ap₂, subst}
-use mathlib.Core.Bool.{Bool, true, false, _&&_}
-use mathlib.Core.List.{List, [], _∷_}
-use Prim.Native.Nat.{ℕ, _≤_, _<_, _^_}
+use mathlib.Core.Path.{_≡_, sym, _∙_, ap₂, subst}
+use mathlib.Core.List.{List}
+use Prim.Native.Nat.{_≤_}
 use native.Mathlib.Omega.{arith}
-use lib.Dec.{lit≤, ltb}
-use lib.ListN.{length, getD}
+use lib.Dec.{lit≤}
+use lib.ListN.{length}
 use lib.IntN.{ℤ, pos, natAbs}
 use lib.Signed.{quotZ}
 use native.Mathlib.Nat.{le-trans}
@@ -14,7 +13,6 @@ use Rattle.integers.specs.Bounds.{told, back}
 use Rattle.integers.specs.Machine.{reads}
 use Rattle.integers.specs.Vector.{AllWithin, all-wider}
 use Rattle.integers.specs.Vector.{dots}
-use Rattle.partition.specs.Basis.{Framed}
 use Rattle.partition.proofs.Four.{dot-within}
 use Rattle.partition.proofs.Located.{located, within-1, within-2, within-3, length-1, length-2, length-3, determinant-within}
 use borrow.Author.Needs.{needs}

@@ -1,13 +1,8 @@
 -- `partition::start` meets its contract. Assumes nothing.
-use mathlib.Core.Path.{_≡_, refl, sym, _∙_, ap, ap₂, subst}
-use mathlib.Core.List.{List, [], _∷_}
-use Prim.Native.Nat.{ℕ, _≤_, _<_}
+use mathlib.Core.Path.{refl}
 use native.Mathlib.Omega.{arith}
-use lib.Dec.{lit≤}
-use lib.ListN.{length, getD}
-use lib.IntN.{ℤ, pos}
-use Rattle.integers.specs.Vector.{AllWithin, all-wider}
-use Rattle.integers.specs.Vector.{dots}
+use lib.ListN.{getD}
+use lib.IntN.{pos}
 use Rattle.partition.proofs.Exchange.{start-0, start-1, start-2, start-3, last-not-zero, not-zero, is-zero}
 use Rattle.integers.specs.Vector.{getD-within}
 use Rattle.integers.specs.Bounds.{small}

@@ -1,19 +1,16 @@
 -- `partition::group_key` meets its contract. Assumes nothing.
 use mathlib.Core.Path.{_≡_, refl, sym, _∙_, ap, ap₂, subst}
-use mathlib.Core.Bool.{Bool, true, false, not, _&&_}
-use mathlib.Core.List.{List, [], _∷_, map}
-use Prim.Native.Nat.{ℕ, suc, _≤_, _<_, _-_, _^_, _+_, _*_}
-use native.Mathlib.Numerals.{add-one}
+use mathlib.Core.Bool.{true}
+use mathlib.Core.List.{List, map}
+use Prim.Native.Nat.{_-_}
 use native.Mathlib.Omega.{arith}
-use lib.ListN.{length, getD, take}
-use lib.IntN.{ℤ, pos, natAbs, _-ℤ_}
+use lib.IntN.{ℤ, pos}
 use mir.Syntax.{w64}
 use mir.Val.{toZ, ofZ}
-use Rattle.integers.specs.Vector.{AllWithin, getD-within}
-use Rattle.integers.specs.Vector.{Vector, minus}
-use Rattle.partition.specs.Basis.{inOneClass, pick, Framed}
-use Rattle.partition.specs.Tables.{row, rows}
-use lib.Signed.{_≤ℤ_}
+use Rattle.integers.specs.Vector.{AllWithin}
+use Rattle.integers.specs.Vector.{minus}
+use Rattle.partition.specs.Basis.{pick}
+use Rattle.partition.specs.Tables.{row}
 use mir.Facts.{toZ-pos}
 use native.Mathlib.Nat.{le-trans}
 use Rattle.integers.specs.Bounds.{told, back}
@@ -21,7 +18,6 @@ use Rattle.integers.specs.Division as Div
 use Rattle.integers.specs.Linear.{ints}
 use Rattle.partition.specs.Projection.{projection}
 use Rattle.partition.specs.Grouping.{isCombination, coefficients}
-use Rattle.partition.specs.Basis.{Keyed, basisFrame}
 use Rattle.partition.proofs.ClassFacts.{minus-within, one-class}
 use Rattle.partition.proofs.Keys.{keyed}
 use borrow.Author.Needs.{needs}

@@ -1,22 +1,15 @@
 -- `partition::key_table` meets its contract. Assumes nothing.
-use mathlib.Core.Path.{_≡_, refl, sym, _∙_, ap, ap₂, subst}
-use mathlib.Core.Bool.{Bool, true, false, not, _&&_}
-use mathlib.Core.List.{List, [], _∷_, map}
-use Prim.Native.Nat.{ℕ, suc, _≤_, _<_, _-_, _^_, _+_, _*_}
-use native.Mathlib.Numerals.{add-one}
+use mathlib.Core.Path.{_≡_, refl, sym, _∙_, subst}
+use mathlib.Core.Bool.{Bool}
+use mathlib.Core.List.{List}
+use Prim.Native.Nat.{_≤_, _-_, _+_, _*_}
 use native.Mathlib.Omega.{arith}
-use lib.ListN.{length, getD, take}
-use lib.IntN.{ℤ, pos, natAbs, _-ℤ_}
-use mir.Syntax.{w64}
-use mir.Val.{toZ, ofZ}
-use Rattle.integers.specs.Vector.{AllWithin, getD-within}
-use Rattle.integers.specs.Vector.{Vector, minus}
-use Rattle.partition.specs.Basis.{inOneClass, pick, Framed}
-use Rattle.partition.specs.Tables.{row, rows}
+use lib.ListN.{length}
+use lib.IntN.{ℤ}
+use Rattle.integers.specs.Vector.{Vector}
+use Rattle.partition.specs.Basis.{inOneClass}
 use lib.ListN.{set, length-set}
-use native.Mathlib.Nat.{le-trans}
-use Rattle.partition.specs.Basis.{basisFrame, Keyed}
-use Rattle.partition.specs.Tables.{putRow}
+use Rattle.partition.specs.Basis.{basisFrame}
 use Rattle.partition.proofs.ClassFacts.{class-refl}
 use Rattle.partition.proofs.KeyTable.{Keying, keying-start, keying-more, keying-end, key-most, head-low, head-same}
 use Rattle.partition.proofs.groups.key_table.Statement.{statement}

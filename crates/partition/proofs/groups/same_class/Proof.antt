@@ -1,18 +1,11 @@
 -- `partition::same_class` meets its contract. Assumes nothing.
-use mathlib.Core.Path.{_≡_, refl, sym, _∙_, ap, ap₂, subst}
-use mathlib.Core.Bool.{Bool, true, false, not, _&&_}
-use mathlib.Core.List.{List, [], _∷_, map}
-use Prim.Native.Nat.{ℕ, suc, _≤_, _<_, _-_, _^_, _+_, _*_}
-use native.Mathlib.Numerals.{add-one}
-use native.Mathlib.Omega.{arith}
-use lib.ListN.{length, getD, take}
-use lib.IntN.{ℤ, pos, natAbs, _-ℤ_}
-use mir.Syntax.{w64}
-use mir.Val.{toZ, ofZ}
-use Rattle.integers.specs.Vector.{AllWithin, getD-within}
-use Rattle.integers.specs.Vector.{Vector, minus}
-use Rattle.partition.specs.Basis.{inOneClass, pick, Framed}
-use Rattle.partition.specs.Tables.{row, rows}
+use mathlib.Core.Path.{refl, sym, _∙_, ap, subst}
+use mathlib.Core.List.{List, map}
+use Prim.Native.Nat.{_-_}
+use lib.IntN.{ℤ}
+use Rattle.integers.specs.Vector.{AllWithin}
+use Rattle.partition.specs.Basis.{pick}
+use Rattle.partition.specs.Tables.{row}
 use Rattle.partition.specs.Projection.{projection}
 use Rattle.partition.specs.Grouping.{isCombination}
 use Rattle.partition.proofs.ClassFacts.{minus-within, one-class}

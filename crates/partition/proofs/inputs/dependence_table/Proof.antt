@@ -9,7 +9,7 @@ use lib.IntN.{ℤ}
 use borrow.Author.Needs.{needs}
 use Rattle.integers.specs.Lists.{tab}
 use Rattle.integers.specs.Vector.{Vector, AllWithin, all-wider}
-use Rattle.nest.specs.Nest.{padded, dependenceAt, depthOf, countOf, maxDepth}
+use Rattle.nest.specs.Nest.{padded, dependenceAt, maxDepth}
 use Rattle.nest.proofs.Accepted.{count-is}
 use Rattle.nest.proofs.Padding.{length-padded}
 use Rattle.nest.proofs.Words.{part-length}

@@ -1,22 +1,15 @@
 -- `frame_of` answers the frame of an accepted nest.
-use mathlib.Core.Path.{_≡_, refl, sym, _∙_, ap, ap₂, subst}
-use Prim.Native.Nat.{ℕ, _≤_, _<_}
+use mathlib.Core.Path.{_≡_, sym, _∙_, ap, ap₂}
 use native.Mathlib.Omega.{arith}
 use borrow.Author.Needs.{needs}
-use lib.IntN.{ℤ, pos, natAbs}
-use lib.Signed.{_≤ℤ_}
+use lib.IntN.{pos}
 use mir.Syntax.{w64}
-use mir.Val.{toZ, ofZ}
+use mir.Val.{toZ}
 use mir.Facts.{toZ-pos}
 use Rattle.integers.specs.Bounds.{told}
-use Rattle.integers.specs.Division.{need-cast}
-use Rattle.integers.specs.Linear.{ints}
-use Rattle.nest.specs.declared.LoopNest.{LoopNest}
-use Rattle.nest.specs.Nest.{toℕ, depthOf, countOf, timeOf, dependencesOf}
-use Rattle.partition.specs.Projection.{groupSize}
+use Rattle.nest.specs.Nest.{toℕ, depthOf, countOf}
 use Rattle.partition.specs.Grouping.{chosenVectors}
-use Rattle.partition.specs.Tables.{rows}
-use Rattle.partition.proofs.NestVectors.{asked, size-is, sized, chosen-padded}
+use Rattle.partition.proofs.NestVectors.{asked, size-is, chosen-padded}
 use Rattle.partition.proofs.inputs.frame_of.Statement.{statement}
 use Rattle.partition.proofs.inputs.frame_of.Tie as tie
 

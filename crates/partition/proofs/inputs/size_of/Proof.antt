@@ -1,22 +1,18 @@
 -- `size_of` answers the group size of an accepted nest.
-use mathlib.Core.Path.{_≡_, refl, sym, _∙_, ap, ap₂, subst}
-use Prim.Native.Nat.{ℕ, _≤_, _<_}
+use mathlib.Core.Path.{_≡_, sym, _∙_, ap, subst}
+use Prim.Native.Nat.{_≤_}
 use native.Mathlib.Omega.{arith}
 use borrow.Author.Needs.{needs}
 use lib.IntN.{ℤ, pos, natAbs}
 use lib.Signed.{_≤ℤ_}
 use mir.Syntax.{w64}
 use mir.Val.{toZ, ofZ}
-use mir.Facts.{toZ-pos}
 use Rattle.integers.specs.Bounds.{told}
 use Rattle.integers.specs.Division.{need-cast}
 use Rattle.integers.specs.Linear.{ints}
-use Rattle.nest.specs.declared.LoopNest.{LoopNest}
 use Rattle.nest.specs.Nest.{toℕ, depthOf, countOf, timeOf, dependencesOf}
 use Rattle.partition.specs.Projection.{groupSize}
-use Rattle.partition.specs.Grouping.{chosenVectors}
-use Rattle.partition.specs.Tables.{rows}
-use Rattle.partition.proofs.NestVectors.{asked, size-is, sized, chosen-padded}
+use Rattle.partition.proofs.NestVectors.{asked, size-is, sized}
 use Rattle.partition.proofs.inputs.size_of.Statement.{statement}
 use Rattle.partition.proofs.inputs.size_of.Tie as tie
 

@@ -1,19 +1,11 @@
 -- `partition::number_table` meets its contract. Assumes nothing.
-use mathlib.Core.Path.{_≡_, refl, sym, _∙_, ap, ap₂, subst}
-use mathlib.Core.Bool.{Bool, true, false, not, _&&_}
-use mathlib.Core.List.{List, [], _∷_, map}
-use Prim.Native.Nat.{ℕ, suc, _≤_, _<_, _-_, _^_, _+_, _*_}
-use native.Mathlib.Numerals.{add-one}
+use mathlib.Core.Path.{_≡_, refl, sym, _∙_}
+use mathlib.Core.Bool.{Bool}
+use Prim.Native.Nat.{_≤_, _-_, _*_}
 use native.Mathlib.Omega.{arith}
-use lib.ListN.{length, getD, take}
-use lib.IntN.{ℤ, pos, natAbs, _-ℤ_}
-use mir.Syntax.{w64}
-use mir.Val.{toZ, ofZ}
-use Rattle.integers.specs.Vector.{AllWithin, getD-within}
-use Rattle.integers.specs.Vector.{Vector, minus, eqV}
-use Rattle.partition.specs.Basis.{inOneClass, pick, Framed}
-use Rattle.partition.specs.Tables.{row, rows}
-use lib.ListN.{set, length-set}
+use lib.ListN.{length}
+use Rattle.integers.specs.Vector.{Vector, eqV}
+use lib.ListN.{length-set}
 use Rattle.partition.proofs.Equal.{equal-self}
 use Rattle.partition.proofs.Table.{Numbered, numbered-start, numbered-more, numbered-end, number-most}
 use Rattle.partition.proofs.numbers.number_table.Statement.{statement}

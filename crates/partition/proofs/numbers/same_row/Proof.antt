@@ -1,23 +1,15 @@
 -- `partition::same_row` meets its contract. Assumes nothing.
-use mathlib.Core.Path.{_≡_, refl, sym, _∙_, ap, ap₂, subst}
-use mathlib.Core.Bool.{Bool, true, false, not, _&&_}
-use mathlib.Core.List.{List, [], _∷_, map}
-use Prim.Native.Nat.{ℕ, suc, _≤_, _<_, _-_, _^_, _+_, _*_}
-use native.Mathlib.Numerals.{add-one}
-use native.Mathlib.Omega.{arith}
-use lib.ListN.{length, getD, take}
+use mathlib.Core.Path.{_≡_, _∙_, ap}
+use Prim.Native.Nat.{ℕ, _<_, _-_, _^_, _+_, _*_}
+use lib.ListN.{getD}
 use lib.Signed.{mag}
-use lib.IntN.{ℤ, pos, natAbs, _-ℤ_}
+use lib.IntN.{ℤ, pos}
 use mir.Syntax.{w64}
-use mir.Val.{toZ, ofZ}
-use Rattle.integers.specs.Vector.{AllWithin, getD-within}
-use Rattle.integers.specs.Vector.{Vector, minus}
-use Rattle.partition.specs.Basis.{inOneClass, pick, Framed}
-use Rattle.partition.specs.Tables.{row, rows}
+use mir.Val.{ofZ}
+use Rattle.partition.specs.Tables.{row}
 use borrow.Author.Tests.{eqb-true, eqb-false}
 use lib.Dec.{eqb}
 use mir.Val.{SFits}
-use Rattle.integers.specs.Bounds.{small}
 use Rattle.integers.specs.Tests.{same}
 use Rattle.partition.proofs.Equal.{rows-equal, rows-differ}
 use Rattle.partition.proofs.Listed.{split}

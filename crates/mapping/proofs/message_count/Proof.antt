@@ -1,0 +1,80 @@
+-- `message_count` meets its contract. The loop's invariant: the number is that of the messages to the first k iterations. Assumes nothing.
+use borrow.Author.Needs.{needs}
+use mathlib.Core.Path.{_≡_, sym, ap, _∙_}
+use mathlib.Core.List.{List}
+use Prim.Native.Nat.{ℕ, _-_, _≤_}
+use native.Mathlib.Omega.{arith}
+use lib.ListN.{take}
+use Rattle.integers.specs.Lists.{tab, count, length-tab}
+use Rattle.nest.specs.declared.LoopNest.{LoopNest}
+use Rattle.nest.specs.Nest.{countOf, maxDependences}
+use Rattle.nest.specs.Refusals.{refusal}
+use Rattle.nest.proofs.Accepted.{count-is, few-points}
+use Rattle.mapping.specs.Mapping.{isMessage, total}
+use Rattle.mapping.proofs.Messages.{count-most, total-none, total-tab-more, total-most}
+use Rattle.mapping.proofs.message_count.Statement.{statement}
+use Rattle.mapping.proofs.message_count.Tie as tie
+
+-- the messages to iteration k, and to the first k
+abbrev row : LoopNest → ℕ → List ℕ → ℕ → ℕ
+row s n ps k = count (isMessage s (take n ps) k) (tab (λ (i : ℕ). i) (countOf s))
+
+abbrev Inv-loop : tie.InvT-loop
+Inv-loop s n processors number₀ k₀ number k = (k ≤ n) × (number ≡ total (tab (row s n processors) k))
+
+abbrev μ-loop : tie.MeasureT-loop
+μ-loop s n processors number₀ k₀ number k = n - k
+
+-- an accepted nest has few
+row-most : (s : LoopNest) (n : ℕ) (ps : List ℕ) → refusal s ≡ 0 → (k : ℕ) → row s n ps k ≤ maxDependences
+row-most s n ps ok k = omega (arith, count-most (isMessage s (take n ps) k) (tab (λ (i : ℕ). i) (countOf s)), length-tab (λ (i : ℕ). i) (countOf s), count-is s ok .1)
+
+loop-holds : tie.Need-loop-holds Inv-loop μ-loop
+loop-holds c = let a = c .before .args in (omega arith, sym (total-none (row (a .s) (a .n) (a .processors .now))))
+
+messages-to-requires : tie.Need-messages-to-requires Inv-loop μ-loop
+messages-to-requires c κs = let t = c .before .before .before in (t .pre .0, t .pre .1, c .loop-test .taken, t .pre .2)
+
+add-number : tie.Need-add-number Inv-loop μ-loop
+add-number c =
+    let l = c .before .before .loop in
+    let t = c .before .before .before .before in
+    let a = t .args in
+    let r = row (a .s) (a .n) (a .processors .now) in
+    let m = total-most r maxDependences (l .k) (row-most (a .s) (a .n) (a .processors .now) (t .pre .0)) in
+    let o = row-most (a .s) (a .n) (a .processors .now) (t .pre .0) (l .k) in
+    omega (arith, m, o, l .inv .1, c .messages-to .ensures, c .before .loop-test .taken, t .pre .1, few-points (a .s) (t .pre .0))
+
+add-k : tie.Need-add-k Inv-loop μ-loop
+add-k c = search needs
+
+loop-less : tie.Need-loop-less Inv-loop μ-loop
+loop-less c = search needs
+
+loop-again : tie.Need-loop-again Inv-loop μ-loop
+loop-again c =
+    let l = c .before .before .loop in
+    let a = c .before .before .before .before .args in
+    let m = total-tab-more (row (a .s) (a .n) (a .processors .now)) (l .k) in
+    (omega (arith, c .before .loop-test .taken), omega (arith, l .inv .1, c .messages-to .ensures, m))
+
+returns : tie.Need-returns Inv-loop μ-loop
+returns c =
+    let l = c .before .loop in
+    let a = c .before .before .before .args in
+    let e : l .k ≡ a .n = omega (arith, l .inv .0, c .loop-test .left) in
+    l .inv .1 ∙ ap (λ (k : ℕ). total (tab (row (a .s) (a .n) (a .processors .now)) k)) e
+
+pub message-count-spec : {M : Type 1} → statement M
+message-count-spec =
+    tie.close
+    (tie.spec
+    Inv-loop
+    μ-loop
+    loop-holds
+    messages-to-requires
+    add-number
+    add-k
+    loop-less
+    loop-again
+    returns)

@@ -1,0 +1,3 @@
+-- The mapping of blocks to the processors of a hypercube (000, algorithm 2; document 01, "Card" and "Card message").
+pub mod Mapping
+pub mod Keys

@@ -1,0 +1,310 @@
+// The mapping of an accepted nest's iterations to processors (document 01: cards), and the counts of processors and of messages.
+use nest::LoopNest;
+ghost use mathlib.Core.Path.{_≡_};
+ghost use mathlib.Core.Bool.{not, _&&_};
+ghost use mathlib.Core.List.{List, [], _∷_, _++_};
+ghost use Prim.Native.Nat.{ℕ, _+_, _*_, _^_, _<_, _≤_};
+ghost use lib.Dec.{eqb, leb, ltb};
+ghost use lib.IntN.{ℤ, pos, natAbs, _-ℤ_};
+ghost use lib.ListN.{length, getD, set, take, drop};
+ghost use lib.Signed.{_≤ℤ_};
+ghost use Rattle.integers.specs.Lists.{tab, count, firsts};
+ghost use Rattle.nest.specs.Nest.{toℕ, countOf, maxDepth, maxCube, maxIterations};
+ghost use Rattle.nest.specs.Points.{pointsOf};
+ghost use Rattle.nest.specs.Refusals.{refusal};
+ghost use Rattle.partition.specs.Projection.{leastZ};
+ghost use Rattle.mapping.specs.Mapping.{greatestZ, nextTurn, dealt, gray, partOf, joined, isMessage, total};
+ghost use Rattle.mapping.specs.Keys.{rowLength, maxKey, valuesIn, Keyed, lesserZ, largerZ, column, spanOf, directionsIn, processorsIn, held, Fits, bitsIn, Dealt, oneIf};
+
+// Numbers a row of the table of keys: class, q, b, and one that is not read here.
+const ROW: usize = 4;
+
+// How many processors there are at most.
+const MAX_PROCESSORS: usize = 64;
+
+// 2^e.
+fn power(e: u64) -> u64
+    requires { ⌜ e < 64 ⌝ }
+    ensures { λ r. ⌜ r ≡ 2 ^ e ⌝ }
+{
+    1u64 << e
+}
+
+// The Gray code of a part.
+fn gray_of(p: u64) -> u64
+    ensures { λ r. ⌜ r ≡ gray p ⌝ }
+{
+    p ^ (p / 2)
+}
+
+// How far a value is above the least.
+fn height(least: i64, value: i64) -> u64
+    requires { ⌜ (natAbs least ≤ maxKey) × (natAbs value ≤ maxKey) × (least ≤ℤ value) ⌝ }
+    ensures { λ r. ⌜ r ≡ toℕ (value -ℤ least) ⌝ }
+{
+    (value - least) as u64
+}
+
+// The Gray code of a value's part in a direction.
+fn code_of(value: i64, least: i64, width: u64, bits: u64) -> u64
+    requires { ⌜ (natAbs least ≤ maxKey) × (natAbs value ≤ maxKey) × (least ≤ℤ value) × (toℕ (value -ℤ least) < width) × (bits ≤ maxCube) ⌝ }
+    ensures { λ r. ⌜ r ≡ gray (partOf (record { least = least; width = width; bits = bits }) value) ⌝ }
+{
+    gray_of(height(least, value) * power(bits) / width)
+}
+
+// The lesser of two numbers.
+fn lesser(a: i64, b: i64) -> i64
+    ensures { λ r. ⌜ r ≡ lesserZ a b ⌝ }
+{
+    if b < a { b } else { a }
+}
+
+// The larger of two numbers.
+fn larger(a: i64, b: i64) -> i64
+    ensures { λ r. ⌜ r ≡ largerZ a b ⌝ }
+{
+    if a < b { b } else { a }
+}
+
+// The least of the numbers j of n rows.
+fn least_in(keys: &[i64], j: usize, n: usize) -> i64
+    requires { ⌜ (1 ≤ n) × (n ≤ maxIterations) × (j < maxDepth) × (n * rowLength ≤ length (now keys)) ⌝ }
+    ensures { λ r. ⌜ r ≡ leastZ (column (now (keys .entry)) j n) ⌝ }
+{
+    let mut least = keys[j];
+    for k in 1..n {
+        least = lesser(least, keys[k * ROW + j]);
+    }
+    least
+}
+
+// The greatest of the numbers j of n rows.
+fn greatest_in(keys: &[i64], j: usize, n: usize) -> i64
+    requires { ⌜ (1 ≤ n) × (n ≤ maxIterations) × (j < maxDepth) × (n * rowLength ≤ length (now keys)) ⌝ }
+    ensures { λ r. ⌜ r ≡ greatestZ (column (now (keys .entry)) j n) ⌝ }
+{
+    let mut greatest = keys[j];
+    for k in 1..n {
+        greatest = larger(greatest, keys[k * ROW + j]);
+    }
+    greatest
+}
+
+// The width of the direction whose values are the numbers j of n rows.
+fn width_in(keys: &[i64], j: usize, n: usize) -> u64
+    requires { ⌜ (1 ≤ n) × (n ≤ maxIterations) × (j < maxDepth) × Keyed (now keys) n ⌝ }
+    ensures { λ r. ⌜ r ≡ spanOf (column (now (keys .entry)) j n) .width ⌝ }
+{
+    let least = least_in(keys, j, n);
+    let greatest = greatest_in(keys, j, n);
+    height(least, greatest) + 1
+}
+
+// The directions q, b, class with no bits: the least value and the width of each.
+struct Spans {
+    least: [i64; LoopNest::MAX_DEPTH],
+    width: [u64; LoopNest::MAX_DEPTH],
+}
+
+// The directions of n rows.
+fn spans_in(keys: &[i64], n: usize) -> Spans
+    requires { ⌜ (1 ≤ n) × (n ≤ maxIterations) × Keyed (now keys) n ⌝ }
+    ensures { λ r. ⌜ held (r .least) (r .width) (0 ∷ 0 ∷ 0 ∷ []) ≡ directionsIn (now (keys .entry)) n ⌝ }
+{
+    let q = least_in(keys, 1, n);
+    let b = least_in(keys, 2, n);
+    let class = least_in(keys, 0, n);
+    let q_width = width_in(keys, 1, n);
+    let b_width = width_in(keys, 2, n);
+    let class_width = width_in(keys, 0, n);
+    Spans {
+        least: [q, b, class],
+        width: [q_width, b_width, class_width],
+    }
+}
+
+// Whether a direction with so many bits takes another.
+fn takes_bit(width: u64, bits: u64) -> bool
+    requires { ⌜ bits ≤ maxCube ⌝ }
+    ensures { λ r. ⌜ r ≡ leb (2 ^ (bits + 1)) width ⌝ }
+{
+    power(bits + 1) <= width
+}
+
+// The direction behind k, going round.
+fn next_turn(k: usize) -> usize
+    requires { ⌜ k < maxDepth ⌝ }
+    ensures { λ r. ⌜ r ≡ nextTurn maxDepth k ⌝ }
+{
+    if k + 1 < LoopNest::MAX_DEPTH {
+        k + 1
+    } else {
+        0
+    }
+}
+
+// The same bits with one more for direction k.
+fn with_bit(bits: [u64; LoopNest::MAX_DEPTH], k: usize) -> [u64; LoopNest::MAX_DEPTH]
+    requires { ⌜ (k < maxDepth) × (getD bits k 0 ≤ maxCube) ⌝ }
+    ensures { λ r. ⌜ r ≡ set bits k (getD bits k 0 + 1) ⌝ }
+{
+    let mut more = bits;
+    more[k] = bits[k] + 1;
+    more
+}
+
+// The bits dealt so far, and the direction whose turn is next.
+struct Dealing {
+    bits: [u64; LoopNest::MAX_DEPTH],
+    turn: usize,
+}
+
+// One bit to the first direction that can take it, going round from the one whose turn it is.
+fn deal_bit(
+    width: [u64; LoopNest::MAX_DEPTH],
+    bits: [u64; LoopNest::MAX_DEPTH],
+    turn: usize,
+) -> Dealing
+    requires { ⌜ (turn < maxDepth) × ((k : ℕ) → k < maxDepth → getD bits k 0 ≤ maxCube) ⌝ }
+    ensures { λ r. ⌜ Dealt width bits turn (r .bits) (r .turn) ⌝ }
+{
+    let mut k = turn;
+    for asked in 0..LoopNest::MAX_DEPTH {
+        if takes_bit(width[k], bits[k]) {
+            return Dealing {
+                bits: with_bit(bits, k),
+                turn: next_turn(k),
+            };
+        }
+        k = next_turn(k);
+    }
+    Dealing {
+        bits: bits,
+        turn: k,
+    }
+}
+
+// The bits of each direction when c are dealt.
+fn deal(width: [u64; LoopNest::MAX_DEPTH], c: usize) -> [u64; LoopNest::MAX_DEPTH]
+    requires { ⌜ c ≤ maxCube ⌝ }
+    ensures { λ r. ⌜ ((least : List ℤ) → held least width r ≡ dealt c (held least width (0 ∷ 0 ∷ 0 ∷ []))) ⌝ }
+{
+    let mut dealing = Dealing {
+        bits: [0u64; LoopNest::MAX_DEPTH],
+        turn: 0,
+    };
+    for i in 0..c {
+        let bits = dealing.bits;
+        dealing = deal_bit(width, bits, dealing.turn);
+    }
+    dealing.bits
+}
+
+// The processor of row k: the codes of its values, joined.
+fn processor_of(
+    keys: &[i64],
+    k: usize,
+    least: [i64; LoopNest::MAX_DEPTH],
+    width: [u64; LoopNest::MAX_DEPTH],
+    bits: [u64; LoopNest::MAX_DEPTH],
+) -> u8
+    requires { ⌜ (k < maxIterations) × Keyed (now keys) (k + 1) × (bitsIn bits ≤ maxCube) ⌝ }
+    requires { ⌜ ((j : ℕ) → j < maxDepth → natAbs (getD least j (pos 0)) ≤ maxKey) × Fits (held least width bits) (valuesIn (now keys) k) ⌝ }
+    ensures { λ r. ⌜ r ≡ joined 0 (held least width bits) (valuesIn (now (keys .entry)) k) ⌝ }
+{
+    let q = code_of(keys[k * ROW + 1], least[0], width[0], bits[0]);
+    let b = code_of(keys[k * ROW + 2], least[1], width[1], bits[1]);
+    let class = code_of(keys[k * ROW + 0], least[2], width[2], bits[2]);
+    ((q * power(bits[1]) + b) * power(bits[2]) + class) as u8
+}
+
+// The processor of each of n rows, in directions that hold all of them.
+fn fill_processors(
+    keys: &[i64],
+    n: usize,
+    least: [i64; LoopNest::MAX_DEPTH],
+    width: [u64; LoopNest::MAX_DEPTH],
+    bits: [u64; LoopNest::MAX_DEPTH],
+    processors: &mut [u8],
+)
+    requires { ⌜ (n ≤ maxIterations) × Keyed (now keys) n × (bitsIn bits ≤ maxCube) × (n ≤ length (now processors)) ⌝ }
+    requires { ⌜ ((j : ℕ) → j < maxDepth → natAbs (getD least j (pos 0)) ≤ maxKey) × ((k : ℕ) → k < n → Fits (held least width bits) (valuesIn (now keys) k)) ⌝ }
+    ensures { λ _. ⌜ now (processors .exit) ≡ tab (λ k. joined 0 (held least width bits) (valuesIn (now (keys .entry)) k)) n ++ drop n (now (processors .entry)) ⌝ }
+{
+    for k in 0..n {
+        processors[k] = processor_of(keys, k, least, width, bits);
+    }
+}
+
+// The processors of n iterations whose groups stand in `keys`, in a hypercube of dimension c.
+pub fn processors_into(keys: &[i64], n: usize, c: usize, processors: &mut [u8])
+    requires { ⌜ (1 ≤ n) × (n ≤ maxIterations) × (c ≤ maxCube) × Keyed (now keys) n × (n ≤ length (now processors)) ⌝ }
+    ensures { λ _. ⌜ now (processors .exit) ≡ processorsIn (now (keys .entry)) n c ++ drop n (now (processors .entry)) ⌝ }
+{
+    let spans = spans_in(keys, n);
+    let least = spans.least;
+    let width = spans.width;
+    let bits = deal(width, c);
+    fill_processors(keys, n, least, width, bits, processors);
+}
+
+// 1 for a flag that is not set, 0 for any other.
+fn unset(flag: u8) -> usize
+    ensures { λ r. ⌜ r ≡ oneIf (eqb flag 0) ⌝ }
+{
+    if flag == 0 { 1 } else { 0 }
+}
+
+// How many different processors n iterations are on.
+pub fn processor_count(processors: &[u8], n: usize) -> usize
+    requires { ⌜ (n ≤ length (now processors)) × ((k : ℕ) → k < n → getD (now processors) k 0 < 2 ^ maxCube) ⌝ }
+    ensures { λ r. ⌜ r ≡ length (firsts eqb (take n (now (processors .entry)))) ⌝ }
+{
+    let mut seen = [0u8; MAX_PROCESSORS];
+    let mut number = 0;
+    for k in 0..n {
+        let p = processors[k] as usize;
+        number = number + unset(seen[p]);
+        seen[p] = 1;
+    }
+    number
+}
+
+// 1 if iteration j is one of n and on another processor than iteration k, 0 otherwise.
+fn is_elsewhere(processors: &[u8], n: usize, k: usize, j: usize) -> usize
+    requires { ⌜ (k < n) × (n ≤ length (now processors)) ⌝ }
+    ensures { λ r. ⌜ r ≡ oneIf (ltb j n && not (eqb (getD (now (processors .entry)) j 0) (getD (now (processors .entry)) k 0))) ⌝ }
+{
+    if n <= j {
+        return 0;
+    }
+    if processors[j] == processors[k] { 0 } else { 1 }
+}
+
+// How many messages there are to iteration k, of n.
+fn messages_to(s: LoopNest, n: usize, processors: &[u8], k: usize) -> usize
+    requires { ⌜ (refusal s ≡ 0) × (n ≡ length (pointsOf s)) × (k < n) × (n ≤ length (now processors)) ⌝ }
+    ensures { λ r. ⌜ r ≡ count (isMessage s (take n (now (processors .entry))) k) (tab (λ i. i) (countOf s)) ⌝ }
+{
+    let point = nest::point_of(s, k);
+    let m = nest::to_size(s.count);
+    let mut number = 0;
+    for i in 0..m {
+        let j = sequential::source_at(s, point, i);
+        number = number + is_elsewhere(processors, n, k, j);
+    }
+    number
+}
+
+// How many messages there are between the processors of the n iterations of an accepted nest.
+pub fn message_count(s: LoopNest, n: usize, processors: &[u8]) -> usize
+    requires { ⌜ (refusal s ≡ 0) × (n ≡ length (pointsOf s)) × (n ≤ length (now processors)) ⌝ }
+    ensures { λ r. ⌜ r ≡ total (tab (λ k. count (isMessage s (take n (now (processors .entry))) k) (tab (λ i. i) (countOf s))) n) ⌝ }
+{
+    let mut number = 0;
+    for k in 0..n {
+        number = number + messages_to(s, n, processors, k);
+    }
+    number
+}
