@@ -1,7 +1,7 @@
 // The text of a loop nest: read from bytes, and written into a lent buffer (document 01, "The sheet").
 mod fields;
 mod reader;
-mod writer;
+pub mod writer;
 
 use nest::LoopNest;
 use nest::SHORT_BUFFER;

@@ -1,0 +1,166 @@
+-- The examples P1 to P10 of document 01 ("Mixes to try") and the counts of 000's loops L1 and L2, as one table; `examples-hold` checks all of it on the
+-- definitions, by computation. Where a case is silent: limits 0..3, time vector of ones, cube dimension 0, boundary value and weights 1, and the dependence is 1 in
+-- the innermost loop.
+-- Assumes nothing.
+use mathlib.Core.Path.{_≡_, refl}
+use mathlib.Core.Bool.{Bool, true, false, not, _&&_, _||_}
+use mathlib.Core.List.{List, [], _∷_, _++_, map, flatMap, zipWith, zip}
+use mathlib.Core.Option.{Option, none, some}
+use Prim.Native.Nat.{ℕ, zero, suc, _+_, _-_, _*_}
+use lib.Dec.{eqb}
+use lib.IntN.{ℤ, pos, negℤ}
+use lib.ListN.{length, getD, replicate}
+use Rattle.integers.specs.Lists.{any, all, first, place, firstsAfter, firsts, count, repeats, tab, greatest, firstFrom}
+use Rattle.integers.specs.Vector.{Vector, dots, plus, times, eqZ, eqV, isZeroV}
+use Rattle.integers.specs.Division.{floorDiv}
+use Rattle.nest.specs.declared.LoopNest.{LoopNest}
+use Rattle.nest.specs.Nest.{Limit, toℕ, part, limitsOf, timeOf, dependencesOf, weightsOf, padded, nestOf, emptyNest, countOf}
+use Rattle.nest.specs.Points.{extent, indices, points, pointsOf, pointCount, rank, isPoint, source}
+use Rattle.nest.specs.Refusals.{number, outside, crossed, outOfSpan, backward, holds, firstMet, refusal, orElse}
+use Rattle.nest.specs.Sources.{sourceRank}
+use Rattle.nest_text.specs.Fields.{Bytes, blanksOf, allDigits, valueOf, digitsOf, signedOf, readOf, digitsTo, textOf, fieldOf}
+use Rattle.nest_text.specs.Text.{line, linesOf, isLine, numbersOf, areLines, lineNumbers, widths, headed, nestFrom, headerOf, widthsOf, bodyOf, readRefusal, readNest}
+use Rattle.nest_text.specs.Text as T
+use Rattle.nest_text.specs.Examples.{bytes, lines}
+use Rattle.partition.specs.Projection.{projection, divides, makesWhole, multiplier, groupSize, leastZ, step}
+use Rattle.partition.specs.Grouping.{pivot, clear, remainder, mayGroup, groupingVector, extend, chosenVectors, chosenCount, latest, coefficients, left, isCombination, frame, directions, difference, sameClass, coordinates, seeds, eqG, quotients, classNumber, group, blocks, blockNumber}
+use Rattle.partition.specs.Partition.{stepsOf, stepCount, frameOf, groupsOf, blocksOf, blockCount}
+use Rattle.mapping.specs.Mapping.{inOrder, greatestZ, direction, undealt, takesBit, withBit, noDirection, nextTurn, dealBit, dealBits, dealt, gray, partOf, joined, processor, directionsOf, processorsOf, processorCount, crosses, isMessage, total, messageCount}
+use Rattle.sequential.specs.Sequential.{sourceValue, valueOf as madeOf, loop, sequential, sum, weightedSum, ruleOf, valuesOf}
+use Rattle.planner.specs.Plan.{countsOf}
+use Rattle.planner.specs.Rows.{rowOf}
+use Rattle.planner.specs.Listing.{planLines, listing}
+
+-- ---- what a case may say of its nest
+pub data Fact : Type 0 where
+  -- the refusal's number; 0: accepted
+  answer : ℕ → Fact
+  iterationsAre : ℕ → Fact
+  stepsAre : ℕ → Fact
+  -- the numbers of iterations of blocks 0, 1, ..
+  blockSizes : List ℕ → Fact
+  blocksAre : ℕ → Fact
+  -- dependences between iterations, and how many of them lead from a block to another
+  dependencesAre : ℕ → ℕ → Fact
+  -- the processors of blocks 0, 1, ..
+  blockProcessors : List ℕ → Fact
+  groupSizeIs : ℕ → Fact
+  groupingVectorIs : Vector → Fact
+  -- β
+  chosenAre : ℕ → Fact
+  classesAre : ℕ → Fact
+  projectedPoints : ℕ → Fact
+  -- the nest's text and the listing
+  printed : Bytes → Bytes → Fact
+
+unfoldable pub eqN : List ℕ → List ℕ → Bool
+eqN xs ys = eqV (map pos xs) (map pos ys)
+
+unfoldable pub below : ℕ → List ℕ
+below n = tab (λ k. k) n
+
+unfoldable pub isSome : Option ℕ → Bool
+isSome none = false
+isSome (some j) = true
+
+-- how many pairs of a rank and a dependence number pass a test of the source
+unfoldable pub pairs : LoopNest → (ℕ → Option ℕ → Bool) → ℕ
+pairs s test = total (tab (λ k. count (λ i. test k (sourceRank s k i)) (below (countOf s))) (length (pointsOf s)))
+
+unfoldable pub says : LoopNest → Fact → Bool
+says s (answer k) = eqb (refusal s) k
+says s (iterationsAre k) = eqb (length (pointsOf s)) k
+says s (stepsAre k) = eqb (stepCount s) k
+says s (blockSizes ks) = let t = blocksOf s in eqN (map (λ b. count (eqb b) t) (below (blockCount s))) ks
+says s (blocksAre k) = eqb (blockCount s) k
+says s (dependencesAre k b) = let t = blocksOf s in eqb (pairs s (λ r j. isSome j)) k && eqb (pairs s (crosses t)) b
+says s (blockProcessors ks) = let t = blocksOf s in let p = processorsOf s in eqN (map (λ b. getD p (place (eqb b) t) 0) (below (blockCount s))) ks
+says s (groupSizeIs k) = eqb (groupSize (timeOf s) (dependencesOf s)) k
+says s (groupingVectorIs v) = eqV (getD (groupingVector (timeOf s) (dependencesOf s)) 0 []) v
+says s (chosenAre k) = eqb (chosenCount (timeOf s) (dependencesOf s)) k
+says s (classesAre k) = eqb (length (seeds (frameOf s) (pointsOf s))) k
+says s (projectedPoints k) = eqb (length (firsts eqV (map (projection (timeOf s)) (pointsOf s)))) k
+says s (printed text list) = eqN (T.textOf s) text && eqN (listing text) list
+
+-- ---- the table
+pub record Case : Type 0 where
+  pub nest : LoopNest
+  pub facts : List Fact
+
+unfoldable pub vector : List ℕ → Vector
+vector = map pos
+
+-- 0..u for each upper limit u; boundary value and weights 1
+unfoldable pub nestWith : List ℕ → Vector → List Vector → ℕ → LoopNest
+nestWith us P ds c = nestOf (pos c) (map (λ u. record { lower = pos 0; upper = pos u }) us) P ds (pos 1) (map (λ d. pos 1) ds)
+
+-- 000's loop L1
+unfoldable pub L1 : ℕ → LoopNest
+L1 c = nestWith (3 ∷ 3 ∷ []) (vector (1 ∷ 1 ∷ [])) (vector (0 ∷ 1 ∷ []) ∷ vector (1 ∷ 1 ∷ []) ∷ vector (1 ∷ 0 ∷ []) ∷ []) c
+
+-- 000's loop L2, whose second loop goes from 0 to u
+unfoldable pub L2 : ℕ → LoopNest
+L2 u = nestWith (3 ∷ u ∷ 3 ∷ []) (vector (1 ∷ 1 ∷ 1 ∷ [])) (vector (0 ∷ 1 ∷ 0 ∷ []) ∷ vector (1 ∷ 0 ∷ 0 ∷ []) ∷ vector (0 ∷ 0 ∷ 1 ∷ []) ∷ []) 0
+
+-- one dependence, in two loops of u + 1 and v + 1 indices
+unfoldable pub two : ℕ → ℕ → Vector → Vector → LoopNest
+two u v P d = nestWith (u ∷ v ∷ []) P (d ∷ []) 0
+
+unfoldable pub one : ℕ → LoopNest
+one u = nestWith (u ∷ []) (vector (1 ∷ [])) (vector (1 ∷ []) ∷ []) 0
+
+-- document 01's listing in full
+unfoldable pub listed : LoopNest
+listed =
+    nestOf (pos 1) (record { lower = pos 0; upper = pos 1 } ∷ record { lower = pos 0; upper = pos 2 } ∷ []) (vector (1 ∷ 1 ∷ []))
+    (vector (0 ∷ 1 ∷ []) ∷ vector (1 ∷ 0 ∷ []) ∷ []) (pos 1) (vector (2 ∷ 3 ∷ []))
+
+unfoldable pub listedText : Bytes
+listedText = lines ("     2     2     1" ∷ "     0     1" ∷ "     0     2" ∷ "     1     1" ∷ "     0     1" ∷ "     1     0" ∷ "     1     2     3" ∷ [])
+
+unfoldable pub listedPlan : Bytes
+listedPlan =
+    lines (
+    "     6     4     3     2     2"
+    ∷ "     0     0     0     0     5"
+    ∷ "     1     1     0     0    14"
+    ∷ "     2     2     1     1    33"
+    ∷ "     3     1     2     0    20"
+    ∷ "     4     2     0     0    86"
+    ∷ "     5     3     0     0   276"
+    ∷ [])
+
+unfoldable pub table : List Case
+table =
+    -- P1
+    record { nest = L1 0; facts = answer 0 ∷ blockSizes (7 ∷ 3 ∷ 5 ∷ 1 ∷ []) ∷ dependencesAre 33 12 ∷ [] }
+    ∷ record { nest = L1 2; facts = answer 0 ∷ blockProcessors (3 ∷ 2 ∷ 1 ∷ 0 ∷ []) ∷ [] }
+    -- P2
+    ∷ record { nest = listed; facts = answer 0 ∷ printed listedText listedPlan ∷ [] }
+    -- P3
+    ∷ record { nest = one 0; facts = answer 0 ∷ iterationsAre 1 ∷ stepsAre 1 ∷ blockSizes (1 ∷ []) ∷ blockProcessors (0 ∷ []) ∷ [] }
+    -- P4; 000's own 37 projected points and 17 groups are those of a second loop from 0 to 3
+    ∷ record { nest = L2 2; facts = answer 0 ∷ iterationsAre 48 ∷ stepsAre 9 ∷ groupSizeIs 3 ∷ chosenAre 2 ∷ projectedPoints 30 ∷ blocksAre 12 ∷ [] }
+    ∷ record { nest = L2 3; facts = answer 0 ∷ projectedPoints 37 ∷ blocksAre 17 ∷ [] }
+    -- P5
+    ∷ record { nest = nestWith (3 ∷ 3 ∷ []) (vector (1 ∷ 1 ∷ [])) (vector (0 ∷ 3 ∷ []) ∷ vector (0 ∷ 1 ∷ []) ∷ []) 0; facts = answer 0 ∷ classesAre 3 ∷ [] }
+    -- P6
+    ∷ record {
+      nest = nestWith (3 ∷ 3 ∷ []) (vector (1 ∷ 0 ∷ [])) (vector (1 ∷ 0 ∷ []) ∷ vector (1 ∷ 1 ∷ []) ∷ []) 0;
+      facts = answer 0 ∷ groupSizeIs 1 ∷ groupingVectorIs (vector (1 ∷ 1 ∷ [])) ∷ [];
+    }
+    -- P7
+    ∷ record { nest = two 3 3 (vector (1 ∷ 1 ∷ [])) (negℤ (pos 1) ∷ pos 2 ∷ []); facts = answer 9 ∷ [] }
+    -- P8
+    ∷ record { nest = two 3 3 (pos 1 ∷ negℤ (pos 1) ∷ []) (vector (0 ∷ 1 ∷ [])); facts = answer 11 ∷ [] }
+    -- P9
+    ∷ record { nest = two 63 63 (vector (1 ∷ 1 ∷ [])) (vector (0 ∷ 1 ∷ [])); facts = answer 0 ∷ [] }
+    ∷ record { nest = two 63 64 (vector (1 ∷ 1 ∷ [])) (vector (0 ∷ 1 ∷ [])); facts = answer 6 ∷ [] }
+    -- P10
+    ∷ record { nest = one 1000; facts = answer 0 ∷ [] }
+    ∷ record { nest = one 1001; facts = answer 5 ∷ [] }
+    ∷ []
+
+pub examples-hold : all (λ c. all (says (c .nest)) (c .facts)) table ≡ true
+unfolding any all first place firstsAfter firsts count repeats tab greatest firstFrom dots plus times eqZ eqV isZeroV floorDiv toℕ part limitsOf timeOf dependencesOf weightsOf padded nestOf emptyNest extent indices points pointsOf pointCount rank isPoint source number outside crossed outOfSpan backward holds firstMet refusal orElse sourceRank blanksOf allDigits valueOf digitsOf signedOf readOf digitsTo textOf fieldOf line linesOf isLine numbersOf areLines lineNumbers widths headed nestFrom headerOf widthsOf bodyOf readRefusal readNest T.textOf bytes lines projection divides makesWhole multiplier groupSize leastZ step pivot clear remainder mayGroup groupingVector extend chosenVectors chosenCount latest coefficients left isCombination frame directions difference sameClass coordinates seeds eqG quotients classNumber group blocks blockNumber stepsOf stepCount frameOf groupsOf blocksOf blockCount inOrder greatestZ direction undealt takesBit withBit noDirection nextTurn dealBit dealBits dealt gray partOf joined processor directionsOf processorsOf processorCount crosses isMessage total messageCount sourceValue madeOf loop sequential sum weightedSum ruleOf valuesOf countsOf rowOf planLines listing eqN below isSome pairs says vector nestWith L1 L2 two one listed listedText listedPlan table flatMap zipWith
+examples-hold = refl

@@ -1,0 +1,26 @@
+-- The listing (document 01, "A listing in full"): what the planning program prints for a text.
+-- Assumes nothing.
+use mathlib.Core.Bool.{true, false}
+use mathlib.Core.List.{List, [], _∷_, map, flatMap}
+use lib.Dec.{eqb}
+use lib.IntN.{ℤ, pos}
+use lib.ListN.{length}
+use Rattle.integers.specs.Lists.{tab}
+use Rattle.nest.specs.declared.LoopNest.{LoopNest}
+use Rattle.nest.specs.Points.{pointsOf}
+use Rattle.nest_text.specs.Fields.{Bytes}
+use Rattle.nest_text.specs.Text.{line, readRefusal, readNest}
+use Rattle.partition.specs.Partition.{stepsOf, blocksOf}
+use Rattle.mapping.specs.Mapping.{processorsOf}
+use Rattle.sequential.specs.Sequential.{valuesOf}
+use Rattle.planner.specs.Plan.{countsOf}
+use Rattle.planner.specs.Rows.{rowOf}
+
+-- the counts, then for each iteration in loop order rank, step, block, processor, value
+unfoldable pub planLines : LoopNest → List (List ℤ)
+planLines s =
+    map pos (countsOf s) ∷ tab (rowOf (stepsOf s) (blocksOf s) (processorsOf s) (valuesOf s)) (length (pointsOf s))
+
+-- a refusal is its number alone
+unfoldable pub listing : Bytes → Bytes
+listing text = elim (eqb (readRefusal text) 0) [ true ↦ flatMap line (planLines (readNest text)) | false ↦ line (pos (readRefusal text) ∷ []) ]

@@ -1,0 +1,79 @@
+// The lines of the listing.
+ghost use mathlib.Core.Path.{_≡_};
+ghost use mathlib.Core.List.{[], _∷_, map, flatMap};
+ghost use Prim.Native.Nat.{ℕ, _+_, _*_, _<_, _≤_};
+ghost use lib.IntN.{pos};
+ghost use lib.ListN.{length, getD};
+ghost use Rattle.integers.specs.Lists.{tab};
+ghost use Rattle.nest_text.specs.Text.{line};
+ghost use Rattle.nest_text.specs.Stored.{Stored};
+ghost use Rattle.planner.specs.Rows.{rowOf};
+
+// Writes a line of five numbers, each below 1000000.
+pub fn put_counts(out: &mut [u8], at: usize, counts: [usize; 5]) -> usize
+    requires { ⌜ (at + 31 ≤ length (now out)) × ((i : ℕ) → i < 5 → getD counts i 0 < 1000000) ⌝ }
+    ensures { λ r. ⌜ Stored (now (out .entry)) at (line (map pos counts)) (now (out .exit)) r ⌝ }
+{
+    let numbers = [
+        counts[0] as i64,
+        counts[1] as i64,
+        counts[2] as i64,
+        counts[3] as i64,
+        counts[4] as i64,
+    ];
+    nest_text::writer::put_line(out, at, &numbers, 0, 5)
+}
+
+// Writes a line of one number.
+pub fn put_number(out: &mut [u8], at: usize, x: u8) -> usize
+    requires { ⌜ at + 7 ≤ length (now out) ⌝ }
+    ensures { λ r. ⌜ Stored (now (out .entry)) at (line (pos x ∷ [])) (now (out .exit)) r ⌝ }
+{
+    let numbers = [x as i64];
+    nest_text::writer::put_line(out, at, &numbers, 0, 1)
+}
+
+// Writes the line of an iteration.
+fn put_row(
+    out: &mut [u8],
+    at: usize,
+    rank: usize,
+    step: u32,
+    block: u16,
+    processor: u8,
+    value: u16,
+) -> usize
+    requires { ⌜ (at + 31 ≤ length (now out)) × ((rank < 1000000) × (step < 1000000)) ⌝ }
+    ensures { λ r. ⌜ (r ≡ at + 31) × Stored (now (out .entry)) at (line (pos rank ∷ pos step ∷ pos block ∷ pos processor ∷ pos value ∷ [])) (now (out .exit)) r ⌝ }
+{
+    let counts = [
+        rank,
+        step as usize,
+        block as usize,
+        processor as usize,
+        value as usize,
+    ];
+    put_counts(out, at, counts)
+}
+
+// Writes a line for each of n iterations: rank, step, block, processor, value.
+pub fn put_rows(
+    out: &mut [u8],
+    at: usize,
+    n: usize,
+    steps: &[u32],
+    blocks: &[u16],
+    processors: &[u8],
+    values: &[u16],
+) -> usize
+    requires { ⌜ (at + 31 * n ≤ length (now out)) × (n ≤ 4096) ⌝ }
+    requires { ⌜ (n ≤ length (now steps)) × (n ≤ length (now blocks)) × (n ≤ length (now processors)) × (n ≤ length (now values)) ⌝ }
+    requires { ⌜ ((k : ℕ) → k < n → getD (now steps) k 0 < 1000000) ⌝ }
+    ensures { λ r. ⌜ Stored (now (out .entry)) at (flatMap line (tab (rowOf (now (steps .entry)) (now (blocks .entry)) (now (processors .entry)) (now (values .entry))) n)) (now (out .exit)) r ⌝ }
+{
+    let mut end = at;
+    for k in 0..n {
+        end = put_row(out, end, k, steps[k], blocks[k], processors[k], values[k]);
+    }
+    end
+}
