@@ -8,7 +8,7 @@ use native.Mathlib.Nat as NatL
 use native.Mathlib.Omega.{arith}
 use lib.IntN.{ℤ, pos}
 use lib.ListN.{length, getD, length-map, length-append, length-replicate}
-use Rattle.integers.specs.Lists.{true-T, T-true, firsts, place, place-below}
+use Rattle.integers.specs.Lists.{true-T, firsts, place, T-true, place-below}
 use Rattle.integers.specs.Vector.{Vector, zeros, eqV}
 use Rattle.nest.specs.declared.LoopNest.{LoopNest}
 use Rattle.nest.specs.Nest.{padded, depthOf, timeOf, dependencesOf}
@@ -25,20 +25,23 @@ use Rattle.partition.proofs.Vectors.{AllLength}
 use Rattle.partition.proofs.Listed.{length-rows, getD-rows}
 use Rattle.partition.proofs.ClassFacts.{class-refl}
 use Rattle.partition.proofs.KeyTable.{size-free}
-use Rattle.partition.proofs.BlockTable.{block-numbers, block-count}
+use Rattle.partition.proofs.KeyNumbers.{block-numbers, block-count}
 use Rattle.partition.proofs.Padded.{pad, padFrame, sameClass-pad, seeds-pad, seeds-length, group-pad, chosen-length}
 use Rattle.partition.proofs.NestVectors.{depth-few, time-length, dependences-length, points-length, padded-is, paddeds-are}
 
+-- a member has the length of all
 mem-length : (n : ℕ) (vs : List Vector) (x : Vector) → AllLength n vs → List·Memᴰ x vs → length x ≡ n
 mem-length n [] x a m = elim m [ ]
 mem-length n (v ∷ vs) x a (List·Memᴰ·head e) = ap (λ (u : Vector). length u) e ∙ a .0
 mem-length n (v ∷ vs) x a (List·Memᴰ·tail m) = mem-length n vs x (a .1) m
 
+-- an entry of a mapped list
 at-map : {A B : Type 0} (f : A → B) (xs : List A) (i : ℕ) (d : A) (e : B) → i < length xs → getD (map f xs) i e ≡ f (getD xs i d)
 at-map f [] i d e l = absurd (NatL.not-suc-le-zero l)
 at-map f (x ∷ xs) zero d e l = refl
 at-map f (x ∷ xs) (suc i) d e l = at-map f xs i d e (NatL.le-of-suc-le-suc l)
 
+-- how many are picked
 pick-length : {A : Type 0} (count : ℕ) (x y z : A) → count ≤ 3 → length (pick count x y z) ≡ count
 pick-length zero x y z l = refl
 pick-length (suc zero) x y z l = refl
@@ -49,6 +52,7 @@ pick-length (suc (suc (suc (suc n)))) x y z l = absurd (omega arith)
 -- ---- zeros behind change no group
 
 module _ (k n : ℕ) (F : Frame) (p : length (F .time) ≡ n) (c : AllLength n (F .chosen)) where
+  -- groups of several points
   groups-pad : (sds qs : List Vector) → AllLength n sds → AllLength n qs → ((x : Vector) → List·Memᴰ x qs → classNumber F sds x < length sds)
       → map (group (padFrame k F) (map (pad k) sds)) (map (pad k) qs) ≡ map (group F sds) qs
   groups-pad sds [] a b h = refl
@@ -74,14 +78,17 @@ module _ (s : LoopNest) (ok : refusal s ≡ 0) (P : Vector) (count : ℕ) (v1 v2
   abbrev F′ : Frame
   F′ = basisFrame P count v1 v2 v3 r
 
+  -- P has the depth for its length
   time-same : length (frameOf s .time) ≡ depthOf s
   unfolding frameOf frame
   time-same = time-length s
 
+  -- so have the chosen vectors
   chosen-same : AllLength (depthOf s) (frameOf s .chosen)
   unfolding frameOf frame
   chosen-same = chosen-length (depthOf s) (timeOf s) (dependencesOf s) (dependences-length s)
 
+  -- the frame of the rows is the nest's, with zeros behind
   frame-same : F′ ≡ padFrame k (frameOf s)
   unfolding frameOf frame
   frame-same =
@@ -89,14 +96,17 @@ module _ (s : LoopNest) (ok : refusal s ≡ 0) (P : Vector) (count : ℕ) (v1 v2
       ∙ ap (λ (u : List Vector). record { time = pad k (timeOf s); chosen = u; size = r }) (chosen ∙ paddeds-are (depthOf s) (chosenVectors (timeOf s) (dependencesOf s)) (chosen-length (depthOf s) (timeOf s) (dependencesOf s) (dependences-length s)))
       ∙ ap (λ (u : ℕ). record { time = pad k (timeOf s); chosen = map (pad k) (chosenVectors (timeOf s) (dependencesOf s)); size = u }) size
 
+  -- the points likewise
   points-same : rows t n ≡ map (pad k) (pointsOf s)
   points-same = points ∙ paddeds-are (depthOf s) (pointsOf s) (points-length s)
 
+  -- a point is in its own class
   self : (y : Vector) → length y ≡ depthOf s → sameClass (padFrame k (frameOf s)) (pad k y) (pad k y) ≡ true
   self y e =
       ap (λ (G : Frame). sameClass G (pad k y) (pad k y)) (sym frame-same) ∙ ap (λ (q : Vector → Vector → Bool). q (pad k y) (pad k y)) (sym (size-free P v1 v2 v3 count r))
       ∙ class-refl framed (pad k y) (length-append y (zeros k) ∙ (let z = length-replicate k (pos 0) in omega (arith, e, z, depth-few s ok)))
 
+  -- the groups
   pub groups-are : map (group F′ (seeds F′ (rows t n))) (rows t n) ≡ groupsOf s
   unfolding groupsOf
   groups-are =
@@ -105,11 +115,13 @@ module _ (s : LoopNest) (ok : refusal s ≡ 0) (P : Vector) (count : ℕ) (v1 v2
       ∙ groups-pad k (depthOf s) (frameOf s) time-same chosen-same (seeds (frameOf s) (pointsOf s)) (pointsOf s) (seeds-length k (depthOf s) (frameOf s) time-same chosen-same (pointsOf s) (points-length s)) (points-length s)
       (class-low k (depthOf s) (frameOf s) time-same chosen-same (pointsOf s) (points-length s) self)
 
+  -- the number of chosen vectors
   count-same : count ≡ chosenCount (timeOf s) (dependencesOf s)
   unfolding chosenCount
   count-same = sym (pick-length count v1 v2 v3 (framed .few)) ∙ ap (λ (l : List Vector). length l) chosen ∙ length-map (chosenVectors (timeOf s) (dependencesOf s)) (padded 4)
 
   module _ (keys₀ keys : List ℤ) (G : Grouped F′ count t n keys₀ keys) where
+    -- a row is its group
     row-same : (j : ℕ) → j < n → GroupRow count (group F′ (seeds F′ (rows t n)) (row t j)) (row keys j)
     unfolding group
     row-same j l = let K = G .keyed j l in record { class-is = K .class-is; along-is = K .along-is; fill = K .fill; within = G .within j l }
@@ -133,6 +145,7 @@ module _ (s : LoopNest) (ok : refusal s ≡ 0) (P : Vector) (count : ℕ) (v1 v2
     unfolding blocksOf
     blocks-are = block-numbers F′ count t n keys₀ keys G ∙ ap (λ (gs : List Group). map (blockNumber (blocks gs)) gs) groups-are
 
+    -- the number of blocks
     pub count-is : length (firsts eqV (rows keys n)) ≡ blockCount s
     unfolding blockCount
     count-is = block-count F′ count t n keys₀ keys G ∙ ap (λ (gs : List Group). length (blocks gs)) groups-are

@@ -23,7 +23,7 @@ use Rattle.partition.proofs.Vectors.{comp, same-components, comp-projec
 use Rattle.partition.proofs.Elimination.{sumAt, coefficients-length, passes-combination}
 use Rattle.partition.proofs.Multipliers.{multiplier-least}
 use Rattle.partition.proofs.Classes.{comp-difference}
-use Rattle.partition.proofs.FrameFacts.{Last}
+use Rattle.partition.proofs.Frames.{Last}
 
 -- ---- quotients that are equal
 

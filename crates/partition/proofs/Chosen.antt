@@ -19,7 +19,7 @@ use Rattle.partition.proofs.Vectors.{comp, isZeroV→, →isZeroV, AllL
 use Rattle.partition.proofs.Elimination.{pivotAt, comp-remainder, cross-zero, remainder-own}
 use Rattle.partition.proofs.Classes.{projections-length}
 use Rattle.partition.proofs.Independence.{independent-iff}
-use Rattle.partition.proofs.FrameFacts.{no-grouping, grouping-length, grouping-chain, extend-length, extend-chain}
+use Rattle.partition.proofs.Frames.{no-grouping, grouping-length, grouping-chain, extend-length, extend-chain}
 
 -- ---- the grouping vector
 

@@ -9,14 +9,12 @@ use lib.ListN.{length, getD, take, length-map}
 use lib.Seq.{getD-take, length-take-le}
 use Rattle.integers.specs.Bounds.{abs-sub}
 use Rattle.integers.specs.Solver.{var, con, _⊕_, _⊖_, _⊗_, ring}
-use Rattle.integers.specs.Vector.{AllWithin, getD-within}
-use Rattle.integers.specs.Lists.{place}
-use Rattle.integers.specs.Vector.{Vector, dots, plus, times, minus, dots-minus}
+use Rattle.integers.specs.Vector.{AllWithin, getD-within, Vector, dots, plus, times, minus, dots-minus}
+use Rattle.integers.specs.Lists.{place, T-true}
 use Rattle.partition.specs.Projection.{projection}
 use Rattle.partition.specs.Grouping.{isCombination, sameClass, directions, difference}
 use Rattle.partition.specs.Basis.{pick, Framed, inOneClass}
 use Rattle.partition.specs.Tables.{row, rows}
-use Rattle.integers.specs.Lists.{T-true}
 use Rattle.partition.proofs.Vectors.{comp, same-components, length-minus, comp-minus, comp-projection}
 use Rattle.partition.proofs.Classes.{Sound, same-class-refl}
 use Rattle.partition.proofs.Four.{length-four-projection}

@@ -13,10 +13,9 @@ use mir.Val.{toZ, ofZ}
 use Rattle.integers.specs.Bounds.{told}
 use lib.ListN.{length}
 use Rattle.integers.specs.Linear.{ints}
-use Rattle.integers.specs.Lists.{true-T}
 use Rattle.integers.specs.Solver.{Expr, var, con, _⊕_, _⊖_, _⊗_, ring}
-use Rattle.integers.specs.Vector.{AllWithin}
-use Rattle.integers.specs.Vector.{Vector, dots}
+use Rattle.integers.specs.Vector.{AllWithin, Vector, dots}
+use Rattle.integers.specs.Lists.{true-T}
 use Rattle.partition.specs.Projection.{projection}
 use Rattle.partition.specs.Grouping.{Chain, independentOf, Independent, extend}
 use Rattle.partition.specs.Basis.{normal, pick, Framed, Ready, Fill}

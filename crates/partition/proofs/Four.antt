@@ -9,8 +9,7 @@ use lib.IntN.{ℤ, pos, natAbs, _+ℤ_, _*ℤ_}
 use lib.ListN.{length}
 use Rattle.integers.specs.Solver.{var, con, _⊕_, _⊗_, ring}
 use Rattle.integers.specs.Bounds.{abs-+, abs-*, abs-sub}
-use Rattle.integers.specs.Vector.{AllWithin, getD-within}
-use Rattle.integers.specs.Vector.{Vector, dots}
+use Rattle.integers.specs.Vector.{AllWithin, getD-within, Vector, dots}
 use Rattle.partition.specs.Projection.{projection}
 use Rattle.partition.proofs.Vectors.{comp, comp-projection, length-projection}
 

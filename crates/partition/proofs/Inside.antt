@@ -5,7 +5,7 @@
 use mathlib.Core.Path.{_≡_, refl, sym, ap, ap₂, _∙_, subst}
 use mathlib.Core.Logic.{_≢_}
 use mathlib.Core.List.{List, [], _∷_, map, List·Memᴰ, List·Memᴰ·head, List·Memᴰ·tail}
-use Prim.Native.Nat.{ℕ, zero, suc, _+_, _*_, _<_, _≤_}
+use Prim.Native.Nat.{ℕ, zero, suc, _<_, _≤_}
 use native.Mathlib.Nat.{suc-inj, suc-ne-zero}
 use native.Mathlib.Omega.{arith}
 use lib.Dec.{T}
@@ -13,10 +13,10 @@ use lib.IntN.{ℤ, pos, negsuc, negℤ, _+ℤ_, _-ℤ_, _*ℤ_}
 use lib.ListN.{length}
 use Rattle.integers.specs.Certify.{from, fact}
 use Rattle.integers.specs.Linear.{ints}
-use Rattle.integers.specs.Lists.{T-true}
 use Rattle.integers.specs.Ring.{*ℤ-cancel-l}
 use Rattle.integers.specs.Solver.{var, con, _⊕_, _⊖_, _⊗_, opp, ring}
 use Rattle.integers.specs.Vector.{Vector, dots}
+use Rattle.integers.specs.Lists.{T-true}
 use Rattle.partition.specs.Projection.{projection}
 use Rattle.partition.specs.Grouping.{isCombination, coefficients, independentOf, Independent}
 use Rattle.partition.specs.Basis.{normal, pick, Framed, Fill}

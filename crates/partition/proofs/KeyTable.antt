@@ -7,11 +7,10 @@ use Prim.Native.Nat.{ℕ, zero, suc, _+_, _*_, _<_, _≤_}
 use native.Mathlib.Nat as NatL
 use native.Mathlib.Omega.{arith}
 use lib.IntN.{ℤ, pos, natAbs}
-use Rattle.integers.specs.Vector.{AllWithin, getD-within}
+use Rattle.integers.specs.Vector.{AllWithin, getD-within, Vector}
 use lib.ListN.{length, getD, take, drop, set, length-set, replicate, length-replicate}
 use lib.Seq.{getD-set-same, getD-set-other}
 use Rattle.integers.specs.Lists.{place, firsts}
-use Rattle.integers.specs.Vector.{Vector}
 use Rattle.partition.specs.Grouping.{Frame, sameClass, seeds, classNumber, directions, difference}
 use Rattle.partition.specs.Tables.{row, rows, putRow}
 use Rattle.partition.specs.Basis.{Keyed, Grouped, basisFrame, inOneClass, pick}
@@ -214,21 +213,35 @@ getD-default a b [] i l = absurd (omega arith)
 getD-default a b (x ∷ xs) zero l = refl
 getD-default a b (x ∷ xs) (suc i) l = getD-default a b xs i (omega arith)
 
+-- ---- the numbers so far
+
+pub numbered-number : (same : Vector → Vector → Bool) (t : List ℤ) (out₀ out heads : List ℕ) (k n : ℕ) → Numbered same t out₀ out heads k n → (j : ℕ) → j < n → getD out j 0 ≡ place (same (row t j)) (firsts same (rows t n))
+numbered-number same t out₀ out heads k n N j l =
+    ap (λ (u : List ℕ). getD u j 0) (N .table)
+    ∙ getD-before 0 (numbers same (firsts same (rows t n)) (rows t n)) (drop n out₀) j (subst (λ (b : ℕ). j < b) (sym (length-numbers same (firsts same (rows t n)) (rows t n))) inside)
+    ∙ getD-numbers same (firsts same (rows t n)) (rows t n) j inside
+    ∙ ap (λ (v : Vector). place (same v) (firsts same (rows t n))) (getD-rows t n j l)
+  where
+    inside : j < length (rows t n)
+    inside = subst (λ (b : ℕ). j < b) (sym (length-rows t n)) l
+
+-- among the heads
+pub numbered-at : (same : Vector → Vector → Bool) (t : List ℤ) (out₀ out heads : List ℕ) (k n : ℕ) → Numbered same t out₀ out heads k n → (j : ℕ) → j < n → getD out j 0 ≡ place (same (row t j)) (map (row t) (take k heads))
+numbered-at same t out₀ out heads k n N j l = numbered-number same t out₀ out heads k n N j l ∙ ap (place (same (row t j))) (sym (N .heads-are))
+
+-- the class numbers stand first in the rows
+pub keying-class : (same : Vector → Vector → Bool) (F : Frame) (count : ℕ) (t keys₀ keys : List ℤ) (heads : List ℕ) (k n : ℕ) → Keying same F count t keys₀ keys heads k n → (j : ℕ) → j < n
+    → getD keys (j * 4) (pos 0) ≡ pos (place (same (row t j)) (map (row t) (take k heads)))
+keying-class same F count t keys₀ keys heads k n K j l = K .keyed j l .class-is ∙ ap pos (numbered-at same t blank (K .out) heads k n (K .num) j l)
+
 keying-same : (same : Vector → Vector → Bool) (F : Frame) (count : ℕ) (t keys₀ keys : List ℤ) (heads : List ℕ) (k n : ℕ) → Keying same F count t keys₀ keys heads k n → k ≤ length heads → (j : ℕ) → j < n
     → Keyed F count (place (same (row t j)) (firsts same (rows t n))) (row t j) (getD (firsts same (rows t n)) (place (same (row t j)) (firsts same (rows t n))) []) (row keys j)
 keying-same same F count t keys₀ keys heads k n K room j l =
     subst (λ (b : ℕ). Keyed F count b (row t j) (getD (firsts same (rows t n)) b []) (row keys j)) number
     (subst (λ (v : Vector). Keyed F count (getD (K .out) j 0) (row t j) v (row keys j)) seed (K .keyed j l))
   where
-    inside : j < length (rows t n)
-    inside = subst (λ (b : ℕ). j < b) (sym (length-rows t n)) l
-
     number : getD (K .out) j 0 ≡ place (same (row t j)) (firsts same (rows t n))
-    number =
-        ap (λ (u : List ℕ). getD u j 0) (K .num .table)
-        ∙ getD-before 0 (numbers same (firsts same (rows t n)) (rows t n)) (drop n blank) j (subst (λ (b : ℕ). j < b) (sym (length-numbers same (firsts same (rows t n)) (rows t n))) inside)
-        ∙ getD-numbers same (firsts same (rows t n)) (rows t n) j inside
-        ∙ ap (λ (v : Vector). place (same v) (firsts same (rows t n))) (getD-rows t n j l)
+    number = numbered-number same t blank (K .out) heads k n (K .num) j l
 
     seed : row t (getD heads (getD (K .out) j 0) 0) ≡ getD (firsts same (rows t n)) (getD (K .out) j 0) []
     seed =

@@ -1,7 +1,8 @@
 -- The theorems about every accepted nest (Theorems), the theory of the definitions beneath them, and the laws that the functions' proofs share.
 pub mod Theorems
 pub mod Answers
-pub mod BlockTable
+pub mod KeyNumbers
+pub mod Lined
 pub mod Blocks
 pub mod ByFirst
 pub mod Chosen
@@ -14,7 +15,7 @@ pub mod Elimination
 pub mod Equal
 pub mod Exchange
 pub mod Four
-pub mod FrameFacts
+pub mod Frames
 pub mod Independence
 pub mod Inside
 pub mod KeyTable

@@ -12,14 +12,12 @@ use lib.Signed.{ltZ}
 use lib.ListN.{length, getD}
 use mir.Syntax.{w64}
 use mir.Val.{ofZ}
-use Rattle.integers.specs.Vector.{AllWithin, getD-within}
-use Rattle.integers.specs.Lists.{greatest, place, first}
-use Rattle.integers.specs.Vector.{Vector, isZeroV}
+use Rattle.integers.specs.Vector.{AllWithin, getD-within, Vector, isZeroV}
+use Rattle.integers.specs.Lists.{greatest, place, first, T-true}
 use Rattle.partition.specs.Projection.{multiplier, groupSize, projection}
 use Rattle.partition.specs.Grouping.{extend, independentOf, mayGroup, remainder, groupingVector, chosenVectors}
 use Rattle.partition.specs.Periods.{maxZ}
 use Rattle.partition.specs.Tables.{row, rows}
-use Rattle.integers.specs.Lists.{T-true}
 use Rattle.partition.proofs.Vectors.{comp, isZeroV→, →isZeroV}
 use Rattle.partition.proofs.Four.{four}
 use Rattle.partition.proofs.Exchange.{extend-yes}

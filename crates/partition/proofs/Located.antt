@@ -2,14 +2,13 @@
 use mathlib.Core.Path.{_≡_, refl, sym, ap, _∙_, subst}
 use mathlib.Core.Bool.{Bool, true, false, _&&_}
 use mathlib.Core.List.{map}
-use Prim.Native.Nat.{ℕ, zero, suc, _*_, _≤_}
+use Prim.Native.Nat.{ℕ, zero, suc, _≤_}
 use native.Mathlib.Omega.{arith}
 use lib.Dec.{T, ltb, lt→ltb, lit≤}
 use lib.IntN.{ℤ, pos, natAbs, _*ℤ_, zero-*ℤ}
 use lib.Signed.{quotZ}
 use lib.ListN.{length}
-use Rattle.integers.specs.Vector.{AllWithin, all-wider}
-use Rattle.integers.specs.Vector.{Vector, dots}
+use Rattle.integers.specs.Vector.{AllWithin, all-wider, Vector, dots}
 use Rattle.partition.specs.Projection.{projection}
 use Rattle.partition.specs.Grouping.{isCombination, coefficients}
 use Rattle.partition.specs.Basis.{normal, pick, Framed, Fill}

@@ -7,8 +7,7 @@ use lib.ListN.{getD}
 use Rattle.integers.specs.Bounds.{back}
 use Rattle.integers.specs.Machine.{boundG, reads}
 use Rattle.integers.specs.Solver.{var, _⊕_, _⊖_, _⊗_}
-use Rattle.integers.specs.Vector.{AllWithin, getD-within}
-use Rattle.integers.specs.Vector.{Vector}
+use Rattle.integers.specs.Vector.{AllWithin, getD-within, Vector}
 use Rattle.partition.specs.Basis.{minor, normal}
 
 pub element : (A : ℕ) (v : Vector) (i : ℕ) → A < 2 ^ 63 → AllWithin A v → reads (getD v i (pos 0)) ≡ getD v i (pos 0)

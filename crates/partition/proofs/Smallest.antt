@@ -40,6 +40,7 @@ firstFrom-is p (suc n) k i h l t never = go (p k) refl (λ h′. firstFrom-is p 
     go true e ih = eq e
     go false e ih = ih (lib.Arith.lt-of-le-ne h (ne e))
 
+-- every entry passes
 pub all-by : (p : ℤ → Bool) (xs : List ℤ) → ((i : ℕ) → i < length xs → T (p (getD xs i (pos 0)))) → T (all p xs)
 unfolding all
 all-by p [] h = tt
@@ -49,6 +50,7 @@ all-by p (x ∷ xs) h = go (p x) (h 0 (omega arith)) (all-by p xs (λ i l. h (su
     go true t ih = ih
     go false t ih = absurd t
 
+-- each entry passes
 pub all-at : (p : ℤ → Bool) (xs : List ℤ) → T (all p xs) → (i : ℕ) → i < length xs → T (p (getD xs i (pos 0)))
 unfolding all
 all-at p [] t i l = absurd (omega arith)
@@ -60,10 +62,12 @@ pub divides-there : (s z : ℤ) → pos 1 ≤ℤ s → T (divides (natAbs s) z) 
 unfolding divides
 divides-there s z h t = rem-zero→divides z s h (zero-size (remZ z s) (rem-size z s ∙ eqb→eq (natAbs z % natAbs s) 0 t))
 
+-- the same backwards
 pub divides-back : (s z : ℤ) → Divides s z → T (divides (natAbs s) z)
 unfolding divides
 divides-back s z d = subst (λ (n : ℕ). T (eqb n 0)) (sym (sym (rem-size z s) ∙ ap natAbs (divides→rem-zero z s d))) (eqb-refl 0)
 
+-- a multiple that is divisible is whole
 pub serves-whole : (P d : Vector) (k : ℕ) → Serves (projection P d) (dots P P) (pos k) (length (projection P d)) → T (makesWhole P d k)
 unfolding makesWhole
 serves-whole P d k h =
@@ -71,6 +75,7 @@ serves-whole P d k h =
     (λ i l. divides-back (dots P P) (comp (times (pos k) (projection P d)) i)
     (subst (Divides (dots P P)) (sym (getD-times (pos k) (projection P d) i)) (h i (subst (λ n. i < n) (length-times (pos k) (projection P d)) l))))
 
+-- the same backwards
 pub whole-serves : (P d : Vector) (k : ℕ) → pos 1 ≤ℤ dots P P → T (makesWhole P d k) → Serves (projection P d) (dots P P) (pos k) (length (projection P d))
 unfolding makesWhole
 whole-serves P d k s t i l =
@@ -78,6 +83,7 @@ whole-serves P d k s t i l =
     (divides-there (dots P P) (comp (times (pos k) (projection P d)) i) s
     (all-at (divides (natAbs (dots P P))) (times (pos k) (projection P d)) t i (subst (λ n. i < n) (sym (length-times (pos k) (projection P d))) l)))
 
+-- the smallest such number is the multiplier
 pub period-multiplier : (P d : Vector) (n : ℕ) (k : ℤ) → pos 1 ≤ℤ dots P P → length (projection P d) ≡ n → PeriodAll (projection P d) (dots P P) n k → k ≡ pos (multiplier P d)
 unfolding multiplier
 period-multiplier P d n (negsuc k) s e p = absurd (p .positive .le)

@@ -9,10 +9,9 @@ use native.Mathlib.Omega.{arith}
 use lib.IntN.{ℤ}
 use lib.ListN.{length, getD, take, drop, set, length-set}
 use lib.Seq.{getD-set-same, getD-set-other}
-use Rattle.integers.specs.Lists.{place, firsts, firstsAfter}
+use Rattle.integers.specs.Lists.{place, firsts, firstsAfter, true-T}
 use Rattle.integers.specs.Vector.{Vector}
 use Rattle.partition.specs.Tables.{row, rows}
-use Rattle.integers.specs.Lists.{true-T}
 use Rattle.partition.proofs.Listed.{map-snoc, length-rows}
 use Rattle.partition.proofs.Numbering.{numbers, length-numbers, firsts-seen, firsts-new, numbers-seen, numbers-new, place-most, stored, take-set, take-set-same}
 use Rattle.partition.proofs.ClassFacts.{length-heads, rows-length}

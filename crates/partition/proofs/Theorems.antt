@@ -30,7 +30,7 @@ use Rattle.partition.proofs.Vectors.{AllLength, all-length, mem-length,
 use Rattle.partition.proofs.Multipliers.{Whole, multiplier-positive, multiplier-whole, multiplier-least, size-bounds, size-attained}
 use Rattle.partition.proofs.Classes.{Sound, directions-length, same-class-iff, class-passes, passes-class, coordinates-only, same-class-refl}
 use Rattle.partition.proofs.Independence.{chain-independent}
-use Rattle.partition.proofs.FrameFacts.{Last, frame-sound, frame-last}
+use Rattle.partition.proofs.Frames.{Last, frame-sound, frame-last}
 use Rattle.partition.proofs.ClassNumbers.{same-third, same-place}
 use Rattle.partition.proofs.Steps as Steps
 use Rattle.partition.proofs.Blocks.{quotients-length, lemma-1}

@@ -2,7 +2,7 @@
 use mathlib.Core.Path.{_≡_, refl, sym, ap, _∙_, subst}
 use mathlib.Core.Bool.{not}
 use mathlib.Core.Logic.{_≢_}
-use Prim.Native.Nat.{ℕ, zero, suc, _*_, _/_, _<_, _≤_}
+use Prim.Native.Nat.{ℕ, zero, suc, _/_, _<_, _≤_}
 use native.Mathlib.Nat as NatL
 use native.Mathlib.Omega.{arith}
 use lib.Dec.{T, not-T}
@@ -13,8 +13,8 @@ use mir.Val.{SFits, toZ, ofZ}
 use Rattle.integers.specs.Bounds.{small, back}
 use Rattle.integers.specs.Division.{Divides, rem-size, zero-size, rem-zero→divides, divides→rem-zero}
 use Rattle.integers.specs.Linear.{ints}
-use Rattle.integers.specs.Vector.{eqZ}
 use Rattle.integers.specs.Ring.{natAbs-neg, neg-*-neg}
+use Rattle.integers.specs.Vector.{eqZ}
 use Rattle.partition.proofs.Elimination.{quot-exact}
 use Rattle.partition.proofs.Vectors.{isZero→}
 

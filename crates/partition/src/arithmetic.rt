@@ -1,4 +1,4 @@
-// Arithmetic on vectors of four numbers: inner products, determinants, projections, and the smallest multiple that becomes whole.
+// Vectors of four numbers: inner products, projections, multipliers and normals.
 ghost use mathlib.Core.Path.{_≡_};
 ghost use mathlib.Core.Bool.{true, false};
 ghost use mathlib.Core.List.{[], _∷_};
@@ -33,7 +33,7 @@ pub fn project(p: [i64; 4], d: [i64; 4]) -> [i64; 4]
     ]
 }
 
-// Whether s divides each of the first n entries of k * x.
+// Whether s divides each of the first n numbers of k * x.
 pub fn serves(x: [i64; 4], s: i64, k: i64, n: usize) -> bool
     requires { ⌜ n ≤ 4 ⌝ }
     requires { ⌜ pos 1 ≤ℤ s ⌝ }
@@ -76,7 +76,7 @@ pub fn multiplier(p: [i64; 4], d: [i64; 4]) -> i64
     smallest_multiple(project(p, d), inner(p, p), 4)
 }
 
-// Whether every component is zero.
+// Whether every component is 0.
 pub fn is_zero(v: [i64; 4]) -> bool
     requires { ⌜ AllWithin 100000 v ⌝ }
     ensures { λ r. ⌜ r ≡ isZeroV v ⌝ }

@@ -1,11 +1,11 @@
-// Group size, grouping vector and auxiliary vectors, chosen from a flat table of dependences.
+// The group size, the grouping vector and the auxiliary vectors (000, algorithm 1, steps 1 to 3).
 use crate::arithmetic::is_zero;
 use crate::arithmetic::larger;
 use crate::arithmetic::multiplier;
 use crate::arithmetic::project;
-use crate::frames::Frame;
-use crate::frames::extended;
-use crate::frames::start;
+use crate::lattice::Frame;
+use crate::lattice::extended;
+use crate::lattice::start;
 ghost use mathlib.Core.Path.{_≡_};
 ghost use mathlib.Core.Bool.{not, _&&_};
 ghost use Prim.Native.Nat.{_<_, _≤_};

@@ -1,6 +1,6 @@
-// The class and the group of each point of a flat table.
-use crate::frames::Frame;
-use crate::frames::locate;
+// Classes of points and the group of each point (000, algorithm 1, steps 4 and 5).
+use crate::lattice::Frame;
+use crate::lattice::locate;
 ghost use mathlib.Core.Path.{_≡_};
 ghost use mathlib.Core.Bool.{true};
 ghost use mathlib.Core.List.{map};
@@ -9,6 +9,8 @@ ghost use lib.ListN.{length, take, getD};
 ghost use Rattle.integers.specs.Lists.{place};
 ghost use Rattle.integers.specs.Vector.{minus, AllWithin};
 ghost use Rattle.partition.specs.Tables.{row, putRow};
+ghost use Rattle.partition.specs.Projection.{projection};
+ghost use lib.IntN.{pos};
 ghost use Rattle.partition.specs.Basis.{Framed, inOneClass, Keyed, basisFrame, Grouped};
 
 // The difference of two points of a flat table.
@@ -28,7 +30,7 @@ pub fn difference(points: &[i64], i: usize, h: usize) -> [i64; 4]
     ]
 }
 
-// Whether points i and h are in one class.
+// Whether two points of a flat table are in one class.
 pub fn same_class(f: Frame, points: &[i64], i: usize, h: usize) -> bool
     requires { ⌜ Framed (f .p) (f .count) (f .v1) (f .v2) (f .v3) (f .f1) (f .f2) (f .f3) (f .d) ⌝ }
     requires { ⌜ (i * 4 + 4 ≤ length (now points)) × (h * 4 + 4 ≤ length (now points)) ⌝ }
@@ -59,6 +61,60 @@ pub fn find_class(f: Frame, points: &[i64], heads: &[usize], k: usize, i: usize)
     k
 }
 
+// Whether a vector is inside with every coordinate 0.
+pub fn is_origin(inside: bool, a: i64, b: i64, c: i64) -> bool
+    ensures { λ r. ⌜ (r ≡ true → (inside ≡ true) × (a ≡ pos 0) × (b ≡ pos 0) × (c ≡ pos 0)) ⌝ }
+{
+    if !inside {
+        return false;
+    }
+    if a != 0 {
+        return false;
+    }
+    if b != 0 {
+        return false;
+    }
+    c == 0
+}
+
+// Whether h is an earlier point with the projection of point i: their difference lies along P.
+pub fn has_line(f: Frame, points: &[i64], i: usize, h: usize) -> bool
+    requires { ⌜ Framed (f .p) (f .count) (f .v1) (f .v2) (f .v3) (f .f1) (f .f2) (f .f3) (f .d) ⌝ }
+    requires { ⌜ (i * 4 + 4 ≤ length (now points)) × (i < 4096) × AllWithin 1000 (now points) ⌝ }
+    ensures { λ r. ⌜ (r ≡ true → (h < i) × (projection (f .p) (row (now (points .entry)) i) ≡ projection (f .p) (row (now (points .entry)) h))) ⌝ }
+{
+    if h >= i {
+        return false;
+    }
+    let e = difference(points, i, h);
+    let g = locate(f, e);
+    is_origin(g.inside, g.c1, g.c2, g.c3)
+}
+
+// The number of the class of point i, as `find_class` finds it. Where h is an earlier point on its projection line, it has that class, which stands in
+// its row of `keys`; any h will do, but only such a one spares the search.
+pub fn class_of(
+    f: Frame,
+    points: &[i64],
+    heads: &[usize],
+    k: usize,
+    keys: &[i64],
+    h: usize,
+    i: usize,
+) -> usize
+    requires { ⌜ Framed (f .p) (f .count) (f .v1) (f .v2) (f .v3) (f .f1) (f .f2) (f .f3) (f .d) ⌝ }
+    requires { ⌜ (i * 4 + 4 ≤ length (now points)) × (i < 4096) × (k ≤ length (now heads)) × (k ≤ 4096) × (i * 4 ≤ length (now keys)) ⌝ }
+    requires { ⌜ ((c : ℕ) → c < k → (getD (now heads) c 0 * 4 + 4 ≤ length (now points)) × (getD (now heads) c 0 < 4096)) ⌝ }
+    requires { ⌜ ((j : ℕ) → j < i → getD (now keys) (j * 4) (pos 0) ≡ pos (place (inOneClass (f .p) (f .count) (f .v1) (f .v2) (f .v3) (row (now points) j)) (map (row (now points)) (take k (now heads))))) ⌝ }
+    requires { ⌜ AllWithin 1000 (now points) ⌝ }
+    ensures { λ r. ⌜ r ≡ place (inOneClass (f .p) (f .count) (f .v1) (f .v2) (f .v3) (row (now (points .entry)) i)) (map (row (now (points .entry))) (take k (now (heads .entry)))) ⌝ }
+{
+    if has_line(f, points, i, h) {
+        return keys[h * 4] as usize;
+    }
+    find_class(f, points, heads, k, i)
+}
+
 // k, and one more if c is k.
 pub fn one_more(c: usize, k: usize) -> usize
     requires { ⌜ k ≤ 4096 ⌝ }
@@ -85,7 +141,7 @@ pub fn group_key(f: Frame, r: usize, class: usize, points: &[i64], i: usize, h: 
     [class as i64, q, g.c2, g.c3]
 }
 
-// Four numbers into row i of a flat table.
+// Writes row i of a flat table.
 pub fn put_row(keys: &mut [i64], i: usize, g: [i64; 4])
     requires { ⌜ (i * 4 + 4 ≤ length (now keys)) × (i < 4096) ⌝ }
     requires { ⌜ AllWithin 1000000000 g ⌝ }
@@ -98,10 +154,18 @@ pub fn put_row(keys: &mut [i64], i: usize, g: [i64; 4])
     keys[a + 3] = g[3];
 }
 
-// The group of each of the n points, as four numbers; answers how many classes there are.
-pub fn key_table(f: Frame, r: usize, points: &[i64], n: usize, keys: &mut [i64]) -> usize
+// The group of each of the n points, as four numbers; answers how many classes there are. `earlier` has for each point an earlier one on its projection
+// line, where there is one.
+pub fn key_table(
+    f: Frame,
+    r: usize,
+    points: &[i64],
+    earlier: &[usize],
+    n: usize,
+    keys: &mut [i64],
+) -> usize
     requires { ⌜ Framed (f .p) (f .count) (f .v1) (f .v2) (f .v3) (f .f1) (f .f2) (f .f3) (f .d) ⌝ }
-    requires { ⌜ (1 ≤ r) × (r ≤ 1000000) × (n ≤ 4096) × (n * 4 ≤ length (now points)) × (n * 4 ≤ length (now keys)) ⌝ }
+    requires { ⌜ (1 ≤ r) × (r ≤ 1000000) × (n ≤ 4096) × (n * 4 ≤ length (now points)) × (n * 4 ≤ length (now keys)) × (n ≤ length (now earlier)) ⌝ }
     requires { ⌜ AllWithin 1000 (now points) ⌝ }
     ensures { λ k. ⌜ Grouped (basisFrame (f .p) (f .count) (f .v1) (f .v2) (f .v3) r) (f .count) (now (points .entry)) n (now (keys .entry)) (now (keys .exit)) ⌝ }
 {
@@ -109,7 +173,8 @@ pub fn key_table(f: Frame, r: usize, points: &[i64], n: usize, keys: &mut [i64])
     let mut k: usize = 0;
     let mut i: usize = 0;
     while i < n {
-        let c = find_class(f, points, &heads, k, i);
+        let b = earlier[i];
+        let c = class_of(f, points, &heads, k, keys, b, i);
         heads[k] = i;
         k = one_more(c, k);
         let h = heads[c];

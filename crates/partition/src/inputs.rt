@@ -2,12 +2,13 @@
 use crate::choice::choose;
 use crate::choice::group_size;
 use crate::choice::grouping_index;
-use crate::frames::Frame;
 use crate::groups::put_row;
+use crate::lattice::Frame;
 use nest::LoopNest;
 ghost use mathlib.Core.Path.{_≡_};
 ghost use mathlib.Core.List.{map};
-ghost use Prim.Native.Nat.{_+_, _*_, _≤_};
+ghost use Prim.Native.Nat.{_+_, _*_, _<_, _≤_};
+ghost use lib.IntN.{natAbs};
 ghost use lib.ListN.{length};
 ghost use Rattle.integers.specs.Vector.{AllWithin};
 ghost use Rattle.nest.specs.Nest.{part, padded, depthOf, countOf, timeOf, dependencesOf};
@@ -88,5 +89,35 @@ pub fn fill_points(s: LoopNest, n: usize, points: &mut [i64])
         let j = nest::point_of(s, k);
         let row = four_of(&j, 0, LoopNest::MAX_DEPTH);
         put_row(points, k, row);
+    }
+}
+
+// A point and p, once or less once.
+pub fn beside(j: [i64; 3], p: [i64; 4], sign: i64) -> [i64; 3]
+    requires { ⌜ AllWithin 1000 j × AllWithin 16 p × (natAbs sign ≤ 1) ⌝ }
+{
+    [j[0] + sign * p[0], j[1] + sign * p[1], j[2] + sign * p[2]]
+}
+
+// The rank of the iteration one time vector p from iteration k, on the side that comes earlier in loop order; not below k where there is none.
+pub fn neighbour(s: LoopNest, p: [i64; 4], k: usize) -> usize
+    requires { ⌜ (refusal s ≡ 0) × (k < length (pointsOf s)) × AllWithin 16 p ⌝ }
+{
+    let j = nest::point_of(s, k);
+    let before = nest::rank_of(s, beside(j, p, -1));
+    if before < k {
+        return before;
+    }
+    nest::rank_of(s, beside(j, p, 1))
+}
+
+// For each of the n iterations an earlier one on its projection line, where there is one.
+pub fn fill_earlier(s: LoopNest, n: usize, earlier: &mut [usize])
+    requires { ⌜ (refusal s ≡ 0) × (n ≡ length (pointsOf s)) × (n ≤ length (now earlier)) ⌝ }
+    ensures { λ r. ⌜ length (now (earlier .exit)) ≡ length (now (earlier .entry)) ⌝ }
+{
+    let p = time_vector(s, nest::to_size(s.depth));
+    for k in 0..n {
+        earlier[k] = neighbour(s, p, k);
     }
 }

@@ -1,12 +1,13 @@
 // The partition of a loop nest's iterations into blocks (000, algorithm 1; document 01, "From sheet to plan").
 mod arithmetic;
 mod choice;
-mod frames;
 mod groups;
 mod inputs;
+mod lattice;
 mod numbers;
 
 use crate::groups::key_table;
+use crate::inputs::fill_earlier;
 use crate::inputs::fill_points;
 use crate::inputs::frame_of;
 use crate::inputs::size_of;
@@ -33,6 +34,8 @@ pub fn blocks_into(s: LoopNest, n: usize, keys: &mut [i64], blocks: &mut [u16]) 
     let f = frame_of(s, r);
     let mut points = [0i64; 16384];
     fill_points(s, n, &mut points);
-    key_table(f, r, &points, n, keys);
-    number_table(keys, n, blocks)
+    let mut earlier = [0usize; 4096];
+    fill_earlier(s, n, &mut earlier);
+    key_table(f, r, &points, &earlier, n, keys);
+    number_table(keys, &earlier, n, blocks)
 }

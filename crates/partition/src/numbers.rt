@@ -1,6 +1,7 @@
-// Numbering the rows of a flat table by first equal row.
+// Numbering of rows by first equal row: blocks in the order of their first iterations.
 use crate::groups::one_more;
 ghost use mathlib.Core.Path.{_≡_};
+ghost use mathlib.Core.Bool.{true};
 ghost use mathlib.Core.List.{_++_, map};
 ghost use Prim.Native.Nat.{ℕ, _+_, _*_, _<_, _≤_};
 ghost use lib.ListN.{length, take, drop, getD};
@@ -44,9 +45,35 @@ pub fn find_row(keys: &[i64], heads: &[usize], k: usize, i: usize) -> usize
     k
 }
 
-// The number of each of the n rows, by first equal row; answers how many different rows there are.
-pub fn number_table(keys: &[i64], n: usize, out: &mut [u16]) -> usize
-    requires { ⌜ (n ≤ 4096) × (n * 4 ≤ length (now keys)) × (n ≤ length (now out)) ⌝ }
+// Whether h is an earlier row that is equal to row i.
+pub fn equals_earlier(keys: &[i64], i: usize, h: usize) -> bool
+    requires { ⌜ (i * 4 + 4 ≤ length (now keys)) × (i < 4096) ⌝ }
+    ensures { λ r. ⌜ (r ≡ true → (h < i) × (row (now (keys .entry)) i ≡ row (now (keys .entry)) h)) ⌝ }
+{
+    if h >= i {
+        return false;
+    }
+    same_row(keys, i, h)
+}
+
+// The number of row i, as `find_row` finds it. Where h is an earlier row that is equal, it has that number, which stands in `out`; any h will do, but only
+// such a one spares the search.
+pub fn row_number(keys: &[i64], heads: &[usize], k: usize, out: &[u16], h: usize, i: usize) -> usize
+    requires { ⌜ (i * 4 + 4 ≤ length (now keys)) × (i < 4096) × (k ≤ length (now heads)) × (k ≤ 4096) × (i ≤ length (now out)) ⌝ }
+    requires { ⌜ ((c : ℕ) → c < k → (getD (now heads) c 0 * 4 + 4 ≤ length (now keys)) × (getD (now heads) c 0 < 4096)) ⌝ }
+    requires { ⌜ ((j : ℕ) → j < i → getD (now out) j 0 ≡ place (eqV (row (now keys) j)) (map (row (now keys)) (take k (now heads)))) ⌝ }
+    ensures { λ r. ⌜ r ≡ place (eqV (row (now (keys .entry)) i)) (map (row (now (keys .entry))) (take k (now (heads .entry)))) ⌝ }
+{
+    if equals_earlier(keys, i, h) {
+        return out[h] as usize;
+    }
+    find_row(keys, heads, k, i)
+}
+
+// The number of each of the n rows, by first equal row; answers how many different rows there are. `earlier` has for each row
+// another that may be equal.
+pub fn number_table(keys: &[i64], earlier: &[usize], n: usize, out: &mut [u16]) -> usize
+    requires { ⌜ (n ≤ 4096) × (n * 4 ≤ length (now keys)) × (n ≤ length (now out)) × (n ≤ length (now earlier)) ⌝ }
     ensures { λ r. ⌜ r ≡ length (firsts eqV (rows (now (keys .entry)) n)) ⌝ }
     ensures { λ r. ⌜ now (out .exit) ≡ map (λ x. place (eqV x) (firsts eqV (rows (now (keys .entry)) n))) (rows (now (keys .entry)) n) ++ drop n (now (out .entry)) ⌝ }
 {
@@ -54,7 +81,8 @@ pub fn number_table(keys: &[i64], n: usize, out: &mut [u16]) -> usize
     let mut k: usize = 0;
     let mut i: usize = 0;
     while i < n {
-        let c = find_row(keys, &heads, k, i);
+        let b = earlier[i];
+        let c = row_number(keys, &heads, k, out, b, i);
         heads[k] = i;
         k = one_more(c, k);
         out[i] = c as u16;

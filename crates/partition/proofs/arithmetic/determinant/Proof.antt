@@ -6,8 +6,6 @@ use Rattle.integers.specs.Solver.{Expr, var, _⊕_, _⊖_, _⊗_}
 use Rattle.integers.specs.Machine.{Within, fits, read}
 use Rattle.partition.proofs.arithmetic.determinant.Statement.{statement}
 use Rattle.partition.proofs.arithmetic.determinant.Tie as tie
-use Rattle.partition.proofs.arithmetic.determinant.Reads as reads
-use Rattle.partition.proofs.arithmetic.determinant.Lts as lts
 
 abbrev ρ : tie.Start → List ℤ
 ρ c = c .args .a0 ∷ c .args .a1 ∷ c .args .a2 ∷ c .args .b0 ∷ c .args .b1 ∷ c .args .b2 ∷ c .args .c0 ∷ c .args .c1 ∷ c .args .c2 ∷ []

@@ -12,8 +12,6 @@ use Rattle.integers.specs.Vector.{getD-within}
 use Rattle.partition.proofs.Four.{dot-four}
 use Rattle.partition.proofs.arithmetic.inner.Statement.{statement}
 use Rattle.partition.proofs.arithmetic.inner.Tie as tie
-use Rattle.partition.proofs.arithmetic.inner.Reads as reads
-use Rattle.partition.proofs.arithmetic.inner.Lts as lts
 
 abbrev a : tie.Start → List ℤ
 a d = d .args .t1

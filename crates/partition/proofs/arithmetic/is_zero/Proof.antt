@@ -1,6 +1,6 @@
 -- `partition::is_zero` meets its contract. Assumes nothing.
 use mathlib.Core.Path.{refl, _∙_}
-use Prim.Native.Nat.{ℕ, _<_, _-_, _^_}
+use Prim.Native.Nat.{ℕ, _<_, _^_}
 use native.Mathlib.Omega.{arith}
 use borrow.Author.Tests.{eqb-true, eqb-false}
 use lib.Dec.{eqb}
@@ -16,8 +16,6 @@ use Rattle.partition.proofs.Listed.{zero-no, zero-yes, split}
 use borrow.Author.Needs.{needs}
 use Rattle.partition.proofs.arithmetic.is_zero.Statement.{statement}
 use Rattle.partition.proofs.arithmetic.is_zero.Tie as tie
-use Rattle.partition.proofs.arithmetic.is_zero.Reads as reads
-use Rattle.partition.proofs.arithmetic.is_zero.Lts as lts
 
 array-copy-out-if1 : tie.Need-array-copy-out-if1
 array-copy-out-if1 c = search needs

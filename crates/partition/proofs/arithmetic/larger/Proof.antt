@@ -1,12 +1,9 @@
 -- `partition::larger` meets its contract. Assumes nothing.
 use mathlib.Core.Path.{_∙_}
-use Prim.Native.Nat.{_-_}
 use mir.Facts.{toZ-ofZ}
 use Rattle.partition.proofs.Listed.{larger-second, larger-first}
 use Rattle.partition.proofs.arithmetic.larger.Statement.{statement}
 use Rattle.partition.proofs.arithmetic.larger.Tie as tie
-use Rattle.partition.proofs.arithmetic.larger.Reads as reads
-use Rattle.partition.proofs.arithmetic.larger.Lts as lts
 
 returns : tie.Need-returns
 returns c = let d = c .before in toZ-ofZ (d .fits .b) ∙ larger-second (d .args .a) (d .args .b) (rw (toZ-ofZ (d .fits .a), toZ-ofZ (d .fits .b)) at (c .if1 .taken))

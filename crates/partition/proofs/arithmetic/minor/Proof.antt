@@ -11,8 +11,6 @@ use borrow.Author.Needs.{needs}
 use Rattle.partition.proofs.arithmetic.minor.Statement.{statement}
 use Rattle.partition.proofs.arithmetic.minor.Tie as tie
 use Rattle.partition.proofs.arithmetic.minor.Reads as reads
-use Rattle.partition.proofs.arithmetic.minor.Lts as lts
-use Rattle.partition.proofs.arithmetic.determinant.Reads as determinant-reads
 
 mul-determinant : tie.Need-mul-determinant
 mul-determinant c = search needs

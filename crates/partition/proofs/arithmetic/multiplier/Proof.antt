@@ -10,11 +10,6 @@ use Rattle.partition.proofs.Smallest.{period-multiplier}
 use borrow.Author.Needs.{needs}
 use Rattle.partition.proofs.arithmetic.multiplier.Statement.{statement}
 use Rattle.partition.proofs.arithmetic.multiplier.Tie as tie
-use Rattle.partition.proofs.arithmetic.multiplier.Reads as reads
-use Rattle.partition.proofs.arithmetic.multiplier.Lts as lts
-use Rattle.partition.proofs.arithmetic.smallest_multiple.Reads as smallest-multiple-reads
-use Rattle.partition.proofs.arithmetic.inner.Reads as inner-reads
-use Rattle.partition.proofs.arithmetic.project.Reads as project-reads
 
 project-requires : tie.Need-project-requires
 project-requires c κs = search needs

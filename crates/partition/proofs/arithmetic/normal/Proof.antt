@@ -4,9 +4,6 @@ use Rattle.integers.specs.Bounds.{told}
 use borrow.Author.Needs.{needs}
 use Rattle.partition.proofs.arithmetic.normal.Statement.{statement}
 use Rattle.partition.proofs.arithmetic.normal.Tie as tie
-use Rattle.partition.proofs.arithmetic.normal.Reads as reads
-use Rattle.partition.proofs.arithmetic.normal.Lts as lts
-use Rattle.partition.proofs.arithmetic.minor.Reads as minor-reads
 
 minor-requires : tie.Need-minor-requires
 minor-requires c κs = search needs

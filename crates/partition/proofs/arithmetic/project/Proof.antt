@@ -15,9 +15,6 @@ use Rattle.partition.proofs.Vectors.{comp, comp-projection}
 use Rattle.partition.proofs.Four.{dot-within, four-is, length-four-projection}
 use Rattle.partition.proofs.arithmetic.project.Statement.{statement}
 use Rattle.partition.proofs.arithmetic.project.Tie as tie
-use Rattle.partition.proofs.arithmetic.project.Reads as reads
-use Rattle.partition.proofs.arithmetic.project.Lts as lts
-use Rattle.partition.proofs.arithmetic.inner.Reads as inner-reads
 
 abbrev Out : Type 0
 Out = tie.After-inner2

@@ -18,7 +18,6 @@ use Rattle.integers.specs.Vector.{getD-within}
 use Rattle.partition.proofs.arithmetic.serves.Statement.{statement}
 use Rattle.partition.proofs.arithmetic.serves.Tie as tie
 use Rattle.partition.proofs.arithmetic.serves.Reads as reads
-use Rattle.partition.proofs.arithmetic.serves.Lts as lts
 
 abbrev Inv-loop : tie.InvT-loop
 Inv-loop s k n x i₀ i = (i ≤ n) × ((m : ℕ) → m < i → Divides (toZ w64 s) (toZ w64 k *ℤ getD x m (pos 0)))

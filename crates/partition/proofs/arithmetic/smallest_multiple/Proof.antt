@@ -19,8 +19,6 @@ use Rattle.partition.specs.Periods.{Serves}
 use Rattle.partition.proofs.arithmetic.smallest_multiple.Statement.{statement}
 use Rattle.partition.proofs.arithmetic.smallest_multiple.Tie as tie
 use Rattle.partition.proofs.arithmetic.smallest_multiple.Reads as reads
-use Rattle.partition.proofs.arithmetic.smallest_multiple.Lts as lts
-use Rattle.partition.proofs.arithmetic.serves.Reads as serves-reads
 
 abbrev Inv-loop : tie.InvT-loop
 Inv-loop x s n k₀ k = (1 ≤ k) × (k ≤ s) × ((m : ℕ) → 1 ≤ m → m < k → Serves x (toZ w64 s) (pos m) n → ⊥)

@@ -1,7 +1,6 @@
 -- `partition::begin` meets its contract. Assumes nothing.
 use mathlib.Core.Path.{refl, sym, _∙_, ap, ap₂, subst}
 use mathlib.Core.List.{List, [], _∷_}
-use Prim.Native.Nat.{_-_}
 use native.Mathlib.Omega.{arith}
 use lib.IntN.{ℤ}
 use Rattle.integers.specs.Vector.{AllWithin}
@@ -11,11 +10,6 @@ use Rattle.partition.proofs.Listed.{row-within, grouping-some, grouping
 use borrow.Author.Needs.{needs}
 use Rattle.partition.proofs.choice.begin.Statement.{statement}
 use Rattle.partition.proofs.choice.begin.Tie as tie
-use Rattle.partition.proofs.choice.begin.Reads as reads
-use Rattle.partition.proofs.choice.begin.Lts as lts
-use Rattle.partition.proofs.frames.extended.Reads as extended-reads
-use Rattle.partition.proofs.frames.start.Reads as start-reads
-use Rattle.partition.proofs.choice.vector.Reads as vector-reads
 
 start-requires : tie.Need-start-requires
 start-requires c κs = search needs

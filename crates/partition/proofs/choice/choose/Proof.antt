@@ -12,11 +12,6 @@ use Rattle.partition.specs.Grouping.{extend, groupingVector}
 use Rattle.partition.proofs.Listed.{row-within, chosen-is, extend-none, extend-more}
 use Rattle.partition.proofs.choice.choose.Statement.{statement}
 use Rattle.partition.proofs.choice.choose.Tie as tie
-use Rattle.partition.proofs.choice.choose.Reads as reads
-use Rattle.partition.proofs.choice.choose.Lts as lts
-use Rattle.partition.proofs.choice.begin.Reads as begin-reads
-use Rattle.partition.proofs.frames.extended.Reads as extended-reads
-use Rattle.partition.proofs.choice.vector.Reads as vector-reads
 
 abbrev Inv-loop : tie.InvT-loop
 Inv-loop ds m g f₀ i₀ f i =

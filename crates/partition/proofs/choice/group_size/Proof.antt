@@ -15,11 +15,6 @@ use Rattle.partition.specs.Tables.{rows}
 use Rattle.partition.proofs.Listed.{group-size-none, group-size-more, row-within}
 use Rattle.partition.proofs.choice.group_size.Statement.{statement}
 use Rattle.partition.proofs.choice.group_size.Tie as tie
-use Rattle.partition.proofs.choice.group_size.Reads as reads
-use Rattle.partition.proofs.choice.group_size.Lts as lts
-use Rattle.partition.proofs.arithmetic.larger.Reads as larger-reads
-use Rattle.partition.proofs.arithmetic.multiplier.Reads as multiplier-reads
-use Rattle.partition.proofs.choice.vector.Reads as vector-reads
 
 abbrev Inv-loop : tie.InvT-loop
 Inv-loop p ds m r₀ i₀ r i = (i ≤ m) × (toZ w64 r ≡ pos (groupSize p (rows ds i)))

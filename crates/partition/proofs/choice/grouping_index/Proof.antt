@@ -10,8 +10,7 @@ use mir.Syntax.{w64}
 use mir.Val.{toZ, ofZ}
 use mir.Facts.{toZ-ofZ}
 use Rattle.integers.specs.Linear.{ints}
-use Rattle.integers.specs.Vector.{AllWithin}
-use Rattle.integers.specs.Vector.{isZeroV}
+use Rattle.integers.specs.Vector.{AllWithin, isZeroV}
 use Rattle.partition.specs.Projection.{projection, multiplier, groupSize}
 use Rattle.partition.specs.Tables.{row, rows}
 use borrow.Author.Count.{below-more}
@@ -20,10 +19,6 @@ use Rattle.partition.specs.Grouping.{mayGroup}
 use Rattle.partition.proofs.Listed.{found-at, found-none, may-group-is, row-within}
 use Rattle.partition.proofs.choice.grouping_index.Statement.{statement}
 use Rattle.partition.proofs.choice.grouping_index.Tie as tie
-use Rattle.partition.proofs.choice.grouping_index.Reads as reads
-use Rattle.partition.proofs.choice.grouping_index.Lts as lts
-use Rattle.partition.proofs.choice.may_group.Reads as may-group-reads
-use Rattle.partition.proofs.choice.vector.Reads as vector-reads
 
 abbrev Inv-loop : tie.InvT-loop
 Inv-loop p ds m r i₀ i = (i ≤ m) × ((k : ℕ) → k < i → mayGroup p (rows ds m) (row ds k) ≡ false)

@@ -1,7 +1,6 @@
 -- `partition::may_group` meets its contract. Assumes nothing.
 use mathlib.Core.Path.{_≡_, refl, sym, _∙_, ap, subst}
 use mathlib.Core.Bool.{not}
-use Prim.Native.Nat.{_≤_, _-_}
 use native.Mathlib.Omega.{arith}
 use borrow.Author.Tests.{eq-eqb, ne-eqb}
 use lib.Dec.{lit≤}
@@ -11,18 +10,12 @@ use mir.Val.{toZ, ofZ}
 use mir.Facts.{toZ-ofZ}
 use Rattle.integers.specs.Bounds.{told}
 use Rattle.integers.specs.Linear.{ints, sizes}
-use Rattle.integers.specs.Vector.{AllWithin, all-wider}
-use Rattle.integers.specs.Vector.{isZeroV}
+use Rattle.integers.specs.Vector.{AllWithin, all-wider, isZeroV}
 use Rattle.partition.specs.Projection.{projection, multiplier}
 use Rattle.partition.proofs.Four.{projection-within}
 use borrow.Author.Needs.{needs}
 use Rattle.partition.proofs.choice.may_group.Statement.{statement}
 use Rattle.partition.proofs.choice.may_group.Tie as tie
-use Rattle.partition.proofs.choice.may_group.Reads as reads
-use Rattle.partition.proofs.choice.may_group.Lts as lts
-use Rattle.partition.proofs.arithmetic.is_zero.Reads as is-zero-reads
-use Rattle.partition.proofs.arithmetic.multiplier.Reads as multiplier-reads
-use Rattle.partition.proofs.arithmetic.project.Reads as project-reads
 
 multiplier-requires : tie.Need-multiplier-requires
 multiplier-requires c κs = search needs

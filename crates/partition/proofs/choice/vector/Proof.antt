@@ -1,6 +1,6 @@
 -- `partition::vector` meets its contract. Assumes nothing.
 use mathlib.Core.Path.{_≡_}
-use Prim.Native.Nat.{ℕ, _-_, _+_, _*_}
+use Prim.Native.Nat.{ℕ, _+_, _*_}
 use native.Mathlib.Omega.{arith}
 use lib.ListN.{getD}
 use lib.IntN.{pos}
@@ -10,8 +10,6 @@ use Rattle.partition.proofs.Sizes.{element}
 use borrow.Author.Needs.{needs}
 use Rattle.partition.proofs.choice.vector.Statement.{statement}
 use Rattle.partition.proofs.choice.vector.Tie as tie
-use Rattle.partition.proofs.choice.vector.Reads as reads
-use Rattle.partition.proofs.choice.vector.Lts as lts
 
 mul-k : tie.Need-mul-k
 mul-k c = search needs

@@ -1,7 +1,7 @@
 -- `partition::difference` meets its contract. Assumes nothing.
 use mathlib.Core.Path.{_≡_, _∙_}
 use mathlib.Core.List.{List, [], _∷_}
-use Prim.Native.Nat.{ℕ, _-_, _+_, _*_}
+use Prim.Native.Nat.{ℕ, _+_, _*_}
 use lib.ListN.{getD}
 use lib.IntN.{ℤ, pos, _-ℤ_}
 use mir.Syntax.{w64}
@@ -13,8 +13,6 @@ use Rattle.partition.proofs.ClassFacts.{row-minus}
 use borrow.Author.Needs.{needs}
 use Rattle.partition.proofs.groups.difference.Statement.{statement}
 use Rattle.partition.proofs.groups.difference.Tie as tie
-use Rattle.partition.proofs.groups.difference.Reads as reads
-use Rattle.partition.proofs.groups.difference.Lts as lts
 
 -- the two numbers at places a and b
 abbrev ρ : tie.Start → ℕ → ℕ → List ℤ

@@ -10,9 +10,6 @@ use borrow.Author.Count.{below-more}
 use Rattle.partition.proofs.ClassFacts.{head-found, head-none}
 use Rattle.partition.proofs.groups.find_class.Statement.{statement}
 use Rattle.partition.proofs.groups.find_class.Tie as tie
-use Rattle.partition.proofs.groups.find_class.Reads as reads
-use Rattle.partition.proofs.groups.find_class.Lts as lts
-use Rattle.partition.proofs.groups.same_class.Reads as same-class-reads
 
 abbrev Inv-loop : tie.InvT-loop
 Inv-loop f points heads k i c₀ c = (c ≤ k) × ((b : ℕ) → b < c → inOneClass (f .p) (f .count) (f .v1) (f .v2) (f .v3) (row points i) (row points (getD heads b 0)) ≡ false)

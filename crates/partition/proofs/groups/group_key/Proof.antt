@@ -2,13 +2,11 @@
 use mathlib.Core.Path.{_≡_, refl, sym, _∙_, ap, ap₂, subst}
 use mathlib.Core.Bool.{true}
 use mathlib.Core.List.{List, map}
-use Prim.Native.Nat.{_-_}
 use native.Mathlib.Omega.{arith}
 use lib.IntN.{ℤ, pos}
 use mir.Syntax.{w64}
 use mir.Val.{toZ, ofZ}
-use Rattle.integers.specs.Vector.{AllWithin}
-use Rattle.integers.specs.Vector.{minus}
+use Rattle.integers.specs.Vector.{AllWithin, minus}
 use Rattle.partition.specs.Basis.{pick}
 use Rattle.partition.specs.Tables.{row}
 use mir.Facts.{toZ-pos}
@@ -23,11 +21,6 @@ use Rattle.partition.proofs.Keys.{keyed}
 use borrow.Author.Needs.{needs}
 use Rattle.partition.proofs.groups.group_key.Statement.{statement}
 use Rattle.partition.proofs.groups.group_key.Tie as tie
-use Rattle.partition.proofs.groups.group_key.Reads as reads
-use Rattle.partition.proofs.groups.group_key.Lts as lts
-use Rattle.integers.proofs.floor_div.Reads as floor-div-reads
-use Rattle.partition.proofs.groups.difference.Reads as difference-reads
-use Rattle.partition.proofs.frames.locate.Reads as locate-reads
 
 r-is : (d : tie.Start) → toZ w64 (d .args .r) ≡ pos (d .args .r)
 r-is d = let k = d .pre .1 .0 in toZ-pos w64 (omega (arith, k .1))

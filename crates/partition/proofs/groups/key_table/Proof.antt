@@ -1,31 +1,26 @@
--- `partition::key_table` meets its contract. Assumes nothing.
+-- `key_table` writes the group of each point. The loop's invariant: the rows of the first i points stand, and the heads are the first points of their classes.
 use mathlib.Core.Path.{_≡_, refl, sym, _∙_, subst}
 use mathlib.Core.Bool.{Bool}
-use mathlib.Core.List.{List}
-use Prim.Native.Nat.{_≤_, _-_, _+_, _*_}
+use mathlib.Core.List.{List, map}
+use Prim.Native.Nat.{ℕ, _≤_, _<_, _-_, _+_, _*_}
 use native.Mathlib.Omega.{arith}
-use lib.ListN.{length}
+use lib.ListN.{length, getD, take, set, length-set}
 use lib.IntN.{ℤ}
+use Rattle.integers.specs.Lists.{place}
 use Rattle.integers.specs.Vector.{Vector}
-use Rattle.partition.specs.Basis.{inOneClass}
-use lib.ListN.{set, length-set}
-use Rattle.partition.specs.Basis.{basisFrame}
+use Rattle.partition.specs.Basis.{inOneClass, basisFrame}
+use Rattle.partition.specs.Grouping.{Frame}
+use Rattle.partition.specs.Tables.{row}
 use Rattle.partition.proofs.ClassFacts.{class-refl}
-use Rattle.partition.proofs.KeyTable.{Keying, keying-start, keying-more, keying-end, key-most, head-low, head-same}
+use Rattle.partition.proofs.KeyTable.{Keying, keying-start, keying-more, keying-end, keying-class, key-most, head-low, head-same}
 use Rattle.partition.proofs.groups.key_table.Statement.{statement}
 use Rattle.partition.proofs.groups.key_table.Tie as tie
-use Rattle.partition.proofs.groups.key_table.Reads as reads
-use Rattle.partition.proofs.groups.key_table.Lts as lts
-use Rattle.partition.proofs.groups.find_class.Reads as find-class-reads
-use Rattle.partition.proofs.groups.group_key.Reads as group-key-reads
-use Rattle.partition.proofs.groups.one_more.Reads as one-more-reads
-use Rattle.partition.proofs.groups.put_row.Reads as put-row-reads
 
 abbrev Inv-loop : tie.InvT-loop
-Inv-loop f r points n keys₀ heads₀ k₀ i₀ keys heads k i = (i ≤ n) × (length heads ≡ 4096) × Keying (inOneClass (f .p) (f .count) (f .v1) (f .v2) (f .v3)) (basisFrame (f .p) (f .count) (f .v1) (f .v2) (f .v3) r) (f .count) points keys₀ keys heads k i
+Inv-loop f r points earlier n keys₀ heads₀ k₀ i₀ keys heads k i = (i ≤ n) × (length heads ≡ 4096) × Keying (inOneClass (f .p) (f .count) (f .v1) (f .v2) (f .v3)) (basisFrame (f .p) (f .count) (f .v1) (f .v2) (f .v3) r) (f .count) points keys₀ keys heads k i
 
 abbrev μ-loop : tie.MeasureT-loop
-μ-loop f r points n keys₀ heads₀ k₀ i₀ keys heads k i = n - i
+μ-loop f r points earlier n keys₀ heads₀ k₀ i₀ keys heads k i = n - i
 
 abbrev At : Type 0
 At = tie.At-loop Inv-loop μ-loop
@@ -33,8 +28,12 @@ At = tie.At-loop Inv-loop μ-loop
 abbrev Start : Type 0
 Start = tie.Start Inv-loop μ-loop
 
+-- the test for one class, and the frame
 abbrev same : Start → Vector → Vector → Bool
 same d = let f = d .args .f in inOneClass (f .p) (f .count) (f .v1) (f .v2) (f .v3)
+
+abbrev frame : Start → Frame
+frame d = let f = d .args .f in basisFrame (f .p) (f .count) (f .v1) (f .v2) (f .v3) (d .args .r)
 
 few : (l : At) → l .loop .k ≤ l .loop .i
 few l = l .loop .inv .2 .num .few
@@ -48,74 +47,98 @@ points-long d = d .pre .1 .0 .3
 keys-long : (d : Start) → d .args .n * 4 ≤ length (d .args .keys .now)
 keys-long d = d .pre .1 .0 .4
 
+earlier-long : (d : Start) → d .args .n ≤ length (d .args .earlier .now)
+earlier-long d = d .pre .1 .0 .5
+
+-- in a turn, where c is the number of point i's class: it is one of the heads or the next, and the head is in that class
+abbrev Numbers : At → ℕ → Type 0
+Numbers l c = c ≡ place (same (l .before .before) (row (l .before .before .args .points .now) (l .loop .i))) (map (row (l .before .before .args .points .now)) (take (l .loop .k) (l .loop .heads)))
+
+room : (l : At) → l .loop .i < l .before .before .args .n → l .loop .k < length (l .loop .heads)
+room l w = omega (arith, w, l .loop .inv .1, few l, n-most (l .before .before))
+
+most : (l : At) (c : ℕ) → l .loop .i < l .before .before .args .n → Numbers l c → c ≤ l .loop .k
+most l c w e =
+    let d = l .before .before in
+    key-most (same d) (class-refl (d .pre .0)) (frame d) (d .args .f .count) (d .args .points .now) (d .args .keys .now) (l .loop .keys) (l .loop .heads) (l .loop .k) (l .loop .i) c (l .loop .inv .2) (room l w) (omega (arith, w, n-most d)) e
+
+low : (l : At) (c : ℕ) → l .loop .i < l .before .before .args .n → Numbers l c → getD (set (l .loop .heads) (l .loop .k) (l .loop .i)) c 0 ≤ l .loop .i
+low l c w e =
+    let d = l .before .before in
+    head-low (same d) (class-refl (d .pre .0)) (frame d) (d .args .f .count) (d .args .points .now) (d .args .keys .now) (l .loop .keys) (l .loop .heads) (l .loop .k) (l .loop .i) c (l .loop .inv .2) (room l w) (omega (arith, w, n-most d)) e
+
 loop-holds : tie.Need-loop-holds Inv-loop μ-loop
-loop-holds c = let f = c .args .f in (omega arith, refl, keying-start (same c) (basisFrame (f .p) (f .count) (f .v1) (f .v2) (f .v3) (c .args .r)) (f .count) (c .args .points .now) (c .args .keys .now) _)
+loop-holds c = let d = c .before in (omega arith, refl, keying-start (same d) (frame d) (d .args .f .count) (d .args .points .now) (d .args .keys .now) _)
 
-slice-aggregate-find-class : tie.Need-slice-aggregate-find-class Inv-loop μ-loop
-slice-aggregate-find-class c = sym (c .before .before .loop .inv .1)
+mul-b : tie.Need-mul-b Inv-loop μ-loop
+mul-b c = let w = c .loop-test .taken in omega (arith, w, n-most (c .before .before .before))
 
-find-class-requires : tie.Need-find-class-requires Inv-loop μ-loop
-find-class-requires c κs =
-    let l = c .before .before in
-    let d = l .before in
+shared-slice-read-b : tie.Need-shared-slice-read-b Inv-loop μ-loop
+shared-slice-read-b c = let w = c .before .loop-test .taken in omega (arith, w, earlier-long (c .before .before .before .before))
+
+slice-aggregate-class-of : tie.Need-slice-aggregate-class-of Inv-loop μ-loop
+slice-aggregate-class-of c = sym (c .before .before .before .loop .inv .1)
+
+class-of-requires : tie.Need-class-of-requires Inv-loop μ-loop
+class-of-requires c κs =
+    let l = c .before .before .before .before in
+    let d = l .before .before in
+    let w = c .before .before .before .loop-test .taken in
     let N = l .loop .inv .2 .num in
-    let h = l .loop .inv .1 in (
+    let h = l .loop .inv .1 in
+    let z = l .loop .inv .2 .size in (
       d .pre .0,
       (
-        (omega (arith, points-long d), omega (arith, n-most d), omega (arith, h, few l, n-most d), omega (arith, few l, n-most d)),
+        (omega (arith, w, points-long d), omega (arith, w, n-most d), omega (arith, w, h, few l, n-most d), omega (arith, w, few l, n-most d), omega (arith, w, z, keys-long d)),
         (
-          λ a lt. let q = N .below a lt in (omega (arith, q, points-long d), omega (arith, q, n-most d)),
-          d .pre .1 .1,
+          λ a lt. let q = N .below a lt in (omega (arith, w, q, points-long d), omega (arith, w, q, n-most d)),
+          (
+            keying-class (same d) (frame d) (d .args .f .count) (d .args .points .now) (d .args .keys .now) (l .loop .keys) (l .loop .heads) (l .loop .k) (l .loop .i) (l .loop .inv .2),
+            d .pre .1 .1,
+          ),
         ),
       ),
     )
 
 mul-heads : tie.Need-mul-heads Inv-loop μ-loop
-mul-heads c = let l = c .before .before .before in let d = l .before in omega (arith, few l, n-most d)
+mul-heads c = let l = c .before .before .before .before .before in let w = c .before .before .before .before .loop-test .taken in omega (arith, w, few l, n-most (l .before .before))
 
 array-write-heads : tie.Need-array-write-heads Inv-loop μ-loop
-array-write-heads c = let l = c .before .before .before in let d = l .before in omega (arith, few l, n-most d)
+array-write-heads c = let l = c .before .before .before .before .before in let w = c .before .before .before .before .loop-test .taken in omega (arith, w, few l, n-most (l .before .before))
 
 one-more-requires : tie.Need-one-more-requires Inv-loop μ-loop
-one-more-requires c κs = let l = c .before .before .before in let d = l .before in omega (arith, few l, n-most d)
+one-more-requires c κs = let l = c .before .before .before .before .before in let w = c .before .before .before .before .loop-test .taken in omega (arith, w, few l, n-most (l .before .before))
 
 mul-h : tie.Need-mul-h Inv-loop μ-loop
 mul-h c =
-    let l = c .before .before .before .before in
-    let d = l .before in
-    let f = d .args .f in
-    let x = c .before .find-class in
-    let h = l .loop .inv .1 in
-    let q = key-most (same d) (class-refl (d .pre .0)) (basisFrame (f .p) (f .count) (f .v1) (f .v2) (f .v3) (d .args .r)) (f .count) (d .args .points .now) (d .args .keys .now) (l .loop .keys) (l .loop .heads) (l .loop .k) (l .loop .i) (x .result) (l .loop .inv .2) (omega (arith, h, few l, n-most d)) (omega (arith, n-most d)) (x .ensures) in
-    omega (arith, q, few l, n-most d)
+    let l = c .before .before .before .before .before .before in
+    let w = c .before .before .before .before .before .loop-test .taken in
+    let x = c .before .class-of in
+    omega (arith, w, most l (x .result) w (x .ensures), few l, n-most (l .before .before))
 
 array-read-h : tie.Need-array-read-h Inv-loop μ-loop
 array-read-h c =
-    let l = c .before .before .before .before in
-    let d = l .before in
-    let f = d .args .f in
-    let x = c .before .find-class in
-    let h = l .loop .inv .1 in
-    let q = key-most (same d) (class-refl (d .pre .0)) (basisFrame (f .p) (f .count) (f .v1) (f .v2) (f .v3) (d .args .r)) (f .count) (d .args .points .now) (d .args .keys .now) (l .loop .keys) (l .loop .heads) (l .loop .k) (l .loop .i) (x .result) (l .loop .inv .2) (omega (arith, h, few l, n-most d)) (omega (arith, n-most d)) (x .ensures) in
-    omega (arith, q, few l, n-most d)
+    let l = c .before .before .before .before .before .before in
+    let w = c .before .before .before .before .before .loop-test .taken in
+    let x = c .before .class-of in
+    omega (arith, w, most l (x .result) w (x .ensures), few l, n-most (l .before .before))
 
 group-key-requires : tie.Need-group-key-requires Inv-loop μ-loop
 group-key-requires c κs =
-    let l = c .before .before .before .before in
-    let d = l .before in
-    let f = d .args .f in
-    let x = c .before .find-class in
-    let h = l .loop .inv .1 in
-    let q = key-most (same d) (class-refl (d .pre .0)) (basisFrame (f .p) (f .count) (f .v1) (f .v2) (f .v3) (d .args .r)) (f .count) (d .args .points .now) (d .args .keys .now) (l .loop .keys) (l .loop .heads) (l .loop .k) (l .loop .i) (x .result) (l .loop .inv .2) (omega (arith, h, few l, n-most d)) (omega (arith, n-most d)) (x .ensures) in
-    let p = head-low (same d) (class-refl (d .pre .0)) (basisFrame (f .p) (f .count) (f .v1) (f .v2) (f .v3) (d .args .r)) (f .count) (d .args .points .now) (d .args .keys .now) (l .loop .keys) (l .loop .heads) (l .loop .k) (l .loop .i) (x .result) (l .loop .inv .2) (omega (arith, h, few l, n-most d)) (omega (arith, n-most d)) (x .ensures) in (
+    let l = c .before .before .before .before .before .before in
+    let d = l .before .before in
+    let w = c .before .before .before .before .before .loop-test .taken in
+    let x = c .before .class-of in
+    let q = most l (x .result) w (x .ensures) in
+    let p = low l (x .result) w (x .ensures) in (
       d .pre .0,
       (
-        (d .pre .1 .0 .0, d .pre .1 .0 .1, omega (arith, q, few l, n-most d)),
+        (d .pre .1 .0 .0, d .pre .1 .0 .1, omega (arith, w, q, few l, n-most d)),
         (
-          (omega (arith, points-long d), omega (arith, p, points-long d)),
+          (omega (arith, w, points-long d), omega (arith, w, p, points-long d)),
           (
-            (omega (arith, n-most d), omega (arith, p, n-most d)),
-            (d .pre .1 .1, head-same (same d) (class-refl (d .pre .0)) (basisFrame (f .p) (f .count) (f .v1) (f .v2) (f .v3) (d .args .r)) (f .count) (d .args .points .now) (d .args .keys .now) (l .loop .keys) (l .loop .heads) (l .loop .k) (l .loop .i) (x .result) (l .loop .inv .2) (omega (arith, h, few l, n-most d)) (omega (arith, n-most d)) (x .ensures)),
+            (omega (arith, w, n-most d), omega (arith, w, p, n-most d)),
+            (d .pre .1 .1, head-same (same d) (class-refl (d .pre .0)) (frame d) (d .args .f .count) (d .args .points .now) (d .args .keys .now) (l .loop .keys) (l .loop .heads) (l .loop .k) (l .loop .i) (x .result) (l .loop .inv .2) (room l w) (omega (arith, w, n-most d)) (x .ensures)),
           ),
         ),
       ),
@@ -123,31 +146,32 @@ group-key-requires c κs =
 
 put-row-requires : tie.Need-put-row-requires Inv-loop μ-loop
 put-row-requires c κs =
-    let l = c .before .before .before .before .before .before in
-    let d = l .before in
-    let z = l .loop .inv .2 .size in ((omega (arith, z, keys-long d), omega (arith, n-most d)), c .before .group-key .ensures .1)
+    let l = c .before .before .before .before .before .before .before .before in
+    let d = l .before .before in
+    let w = c .before .before .before .before .before .before .before .loop-test .taken in
+    let z = l .loop .inv .2 .size in
+    ((omega (arith, w, z, keys-long d), omega (arith, w, n-most d)), c .before .group-key .ensures .1)
 
 add-i : tie.Need-add-i Inv-loop μ-loop
-add-i c = let l = c .before .before .before .before .before .before .before .before in let d = l .before in omega (arith, few l, n-most d)
+add-i c = let l = c .before .before .before .before .before .before .before .before .before .before in let w = c .before .before .before .before .before .before .before .before .before .loop-test .taken in omega (arith, w, n-most (l .before .before))
 
 loop-less : tie.Need-loop-less Inv-loop μ-loop
-loop-less c = let w = c .before .before .before .before .before .before .before .loop-test .taken in omega (arith, w)
+loop-less c = let w = c .before .before .before .before .before .before .before .before .before .loop-test .taken in omega (arith, w)
 
 loop-again : tie.Need-loop-again Inv-loop μ-loop
 loop-again c =
-    let l = c .before .before .before .before .before .before .before .before in
-    let d = l .before in
-    let f = d .args .f in
-    let x = c .before .before .before .before .before .find-class in
-    let h = l .loop .inv .1 in
+    let l = c .before .before .before .before .before .before .before .before .before .before in
+    let d = l .before .before in
+    let w = c .before .before .before .before .before .before .before .before .before .loop-test .taken in
+    let x = c .before .before .before .before .before .class-of in
     let o = c .before .before .before .before .one-more in
     let g = c .before .before .before .group-key in
-    let w = c .before .before .before .before .before .before .before .loop-test .taken in
     let z = l .loop .inv .2 .size in (
       omega (arith, w),
-      length-set (l .loop .heads) (l .loop .k) (l .loop .i) ∙ h,
-      subst (λ (u : List ℤ). Keying (same d) (basisFrame (f .p) (f .count) (f .v1) (f .v2) (f .v3) (d .args .r)) (f .count) (d .args .points .now) (d .args .keys .now) u (set (l .loop .heads) (l .loop .k) (l .loop .i)) (o .result) (l .loop .i + 1))
-          (sym (c .before .put-row .ensures)) (keying-more (same d) (class-refl (d .pre .0)) (basisFrame (f .p) (f .count) (f .v1) (f .v2) (f .v3) (d .args .r)) (f .count) (d .args .points .now) (d .args .keys .now) (l .loop .keys) (l .loop .heads) (l .loop .k) (l .loop .i) (x .result) (l .loop .inv .2) (omega (arith, w, h, few l, n-most d)) (omega (arith, w, n-most d)) (x .ensures) (o .result) (o .ensures .0) (o .ensures .1) (g .result) (omega (arith, w, z, keys-long d)) (g .ensures .1) (g .ensures .0)),
+      length-set (l .loop .heads) (l .loop .k) (l .loop .i) ∙ l .loop .inv .1,
+      subst (λ (u : List ℤ). Keying (same d) (frame d) (d .args .f .count) (d .args .points .now) (d .args .keys .now) u (set (l .loop .heads) (l .loop .k) (l .loop .i)) (o .result) (l .loop .i + 1))
+          (sym (c .before .put-row .ensures))
+          (keying-more (same d) (class-refl (d .pre .0)) (frame d) (d .args .f .count) (d .args .points .now) (d .args .keys .now) (l .loop .keys) (l .loop .heads) (l .loop .k) (l .loop .i) (x .result) (l .loop .inv .2) (room l w) (omega (arith, w, n-most d)) (x .ensures) (o .result) (o .ensures .0) (o .ensures .1) (g .result) (omega (arith, w, z, keys-long d)) (g .ensures .1) (g .ensures .0)),
     )
 
 same-length : tie.Need-same-length Inv-loop μ-loop
@@ -156,10 +180,9 @@ same-length c = c .before .loop .inv .2 .size
 returns : tie.Need-returns Inv-loop μ-loop
 returns c =
     let l = c .before in
-    let d = l .before in
+    let d = l .before .before in
     let f = d .args .f in
-    let h = l .loop .inv .1 in
-    keying-end (f .p) (f .v1) (f .v2) (f .v3) (f .count) (d .args .r) (d .args .points .now) (d .args .keys .now) (l .loop .keys) (l .loop .heads) (l .loop .k) (l .loop .i) (d .args .n) (l .loop .inv .2) (omega (arith, h, few l, n-most d)) (omega arith)
+    keying-end (f .p) (f .v1) (f .v2) (f .v3) (f .count) (d .args .r) (d .args .points .now) (d .args .keys .now) (l .loop .keys) (l .loop .heads) (l .loop .k) (l .loop .i) (d .args .n) (l .loop .inv .2) (omega (arith, l .loop .inv .1, few l, n-most d)) (omega arith)
 
 pub key-table-spec : {M : Type 1} → statement M
 key-table-spec =
@@ -168,8 +191,10 @@ key-table-spec =
     Inv-loop
     μ-loop
     loop-holds
-    slice-aggregate-find-class
-    find-class-requires
+    mul-b
+    shared-slice-read-b
+    slice-aggregate-class-of
+    class-of-requires
     mul-heads
     array-write-heads
     one-more-requires

@@ -1,18 +1,15 @@
 -- `partition::put_row` meets its contract. Assumes nothing.
 use mathlib.Core.List.{List}
-use Prim.Native.Nat.{ℕ, _<_, _-_, _+_, _*_}
+use Prim.Native.Nat.{ℕ, _<_, _+_, _*_}
 use native.Mathlib.Omega.{arith}
-use lib.ListN.{length, getD}
+use lib.ListN.{length, getD, set}
 use lib.IntN.{ℤ, pos}
 use mir.Syntax.{w64}
 use mir.Val.{toZ, ofZ}
-use lib.ListN.{set}
 use Rattle.partition.proofs.KeyTable.{in-set}
 use borrow.Author.Needs.{needs}
 use Rattle.partition.proofs.groups.put_row.Statement.{statement}
 use Rattle.partition.proofs.groups.put_row.Tie as tie
-use Rattle.partition.proofs.groups.put_row.Reads as reads
-use Rattle.partition.proofs.groups.put_row.Lts as lts
 
 abbrev x : tie.Start → ℕ → ℤ
 x d m = toZ w64 (ofZ w64 (getD (d .args .t3) m (pos 0)))

@@ -1,7 +1,6 @@
 -- `partition::same_class` meets its contract. Assumes nothing.
 use mathlib.Core.Path.{refl, sym, _∙_, ap, subst}
 use mathlib.Core.List.{List, map}
-use Prim.Native.Nat.{_-_}
 use lib.IntN.{ℤ}
 use Rattle.integers.specs.Vector.{AllWithin}
 use Rattle.partition.specs.Basis.{pick}
@@ -12,10 +11,6 @@ use Rattle.partition.proofs.ClassFacts.{minus-within, one-class}
 use borrow.Author.Needs.{needs}
 use Rattle.partition.proofs.groups.same_class.Statement.{statement}
 use Rattle.partition.proofs.groups.same_class.Tie as tie
-use Rattle.partition.proofs.groups.same_class.Reads as reads
-use Rattle.partition.proofs.groups.same_class.Lts as lts
-use Rattle.partition.proofs.groups.difference.Reads as difference-reads
-use Rattle.partition.proofs.frames.locate.Reads as locate-reads
 
 difference-requires : tie.Need-difference-requires
 difference-requires c κs = search needs

@@ -45,7 +45,7 @@ row-length : (d : Start) (k : ℕ) → k < d .args .n → length (row-of (d .arg
 row-length d k l = length-padded 4 (getD (pointsOf (d .args .s)) k []) (omega (arith, short d k l))
 
 row-within : (d : Start) (k : ℕ) → k < d .args .n → AllWithin 1000 (row-of (d .args .s) k)
-row-within d k l = point-within (d .args .s) (d .pre .0) k (low d k l)
+row-within d k l = point-within (d .args .s) (d .pre .0) 4 k (low d k l)
 
 -- what `four_of` makes of the point
 row-is : (d : Start) (k : ℕ) (point row : Vector) → k < d .args .n → point ≡ padded 3 (getD (pointsOf (d .args .s)) k []) → row ≡ padded 4 (part point 0 3) → row ≡ row-of (d .args .s) k

@@ -7,9 +7,6 @@ use Rattle.partition.proofs.NestVectors.{depth-few, time-is}
 use borrow.Author.Needs.{needs}
 use Rattle.partition.proofs.inputs.time_vector.Statement.{statement}
 use Rattle.partition.proofs.inputs.time_vector.Tie as tie
-use Rattle.partition.proofs.inputs.time_vector.Reads as reads
-use Rattle.partition.proofs.inputs.time_vector.Lts as lts
-use Rattle.partition.proofs.inputs.four_of.Reads as four-of-reads
 
 -- src/inputs.rt:53:13
 slice-aggregate-four-of : tie.Need-slice-aggregate-four-of

@@ -10,9 +10,6 @@ use borrow.Author.Count.{below-more}
 use Rattle.partition.proofs.ClassFacts.{head-found, head-none}
 use Rattle.partition.proofs.numbers.find_row.Statement.{statement}
 use Rattle.partition.proofs.numbers.find_row.Tie as tie
-use Rattle.partition.proofs.numbers.find_row.Reads as reads
-use Rattle.partition.proofs.numbers.find_row.Lts as lts
-use Rattle.partition.proofs.numbers.same_row.Reads as same-row-reads
 
 abbrev Inv-loop : tie.InvT-loop
 Inv-loop keys heads k i c₀ c = (c ≤ k) × ((b : ℕ) → b < c → eqV (row keys i) (row keys (getD heads b 0)) ≡ false)

@@ -1,23 +1,20 @@
 -- `partition::same_row` meets its contract. Assumes nothing.
 use mathlib.Core.Path.{_≡_, _∙_, ap}
-use Prim.Native.Nat.{ℕ, _<_, _-_, _^_, _+_, _*_}
+use Prim.Native.Nat.{ℕ, _<_, _^_, _+_, _*_}
 use lib.ListN.{getD}
 use lib.Signed.{mag}
 use lib.IntN.{ℤ, pos}
 use mir.Syntax.{w64}
-use mir.Val.{ofZ}
+use mir.Val.{ofZ, SFits}
 use Rattle.partition.specs.Tables.{row}
 use borrow.Author.Tests.{eqb-true, eqb-false}
 use lib.Dec.{eqb}
-use mir.Val.{SFits}
 use Rattle.integers.specs.Tests.{same}
 use Rattle.partition.proofs.Equal.{rows-equal, rows-differ}
 use Rattle.partition.proofs.Listed.{split}
 use borrow.Author.Needs.{needs}
 use Rattle.partition.proofs.numbers.same_row.Statement.{statement}
 use Rattle.partition.proofs.numbers.same_row.Tie as tie
-use Rattle.partition.proofs.numbers.same_row.Reads as reads
-use Rattle.partition.proofs.numbers.same_row.Lts as lts
 
 abbrev el : tie.Start → ℕ → ℤ
 el d a = getD (d .args .keys .now) a (pos 0)

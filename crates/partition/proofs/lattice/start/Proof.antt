@@ -7,11 +7,8 @@ use Rattle.partition.proofs.Exchange.{start-0, start-1, start-2, start-
 use Rattle.integers.specs.Vector.{getD-within}
 use Rattle.integers.specs.Bounds.{small}
 use borrow.Author.Needs.{needs}
-use Rattle.partition.proofs.frames.start.Statement.{statement}
-use Rattle.partition.proofs.frames.start.Tie as tie
-use Rattle.partition.proofs.frames.start.Reads as reads
-use Rattle.partition.proofs.frames.start.Lts as lts
-use Rattle.partition.proofs.frames.framed.Reads as framed-reads
+use Rattle.partition.proofs.lattice.start.Statement.{statement}
+use Rattle.partition.proofs.lattice.start.Tie as tie
 
 array-copy-out-if1 : tie.Need-array-copy-out-if1
 array-copy-out-if1 c = search needs

@@ -1,18 +1,12 @@
 -- `partition::second_chosen` meets its contract. Assumes nothing.
 use mathlib.Core.Path.{refl, _∙_}
-use Prim.Native.Nat.{_≤_}
 use native.Mathlib.Omega.{arith}
 use lib.Dec.{lit≤}
-use Rattle.integers.specs.Vector.{all-wider}
-use Rattle.integers.specs.Vector.{dots}
+use Rattle.integers.specs.Vector.{all-wider, dots}
 use Rattle.partition.proofs.Located.{within-2, within-3}
 use Rattle.partition.proofs.Exchange.{taken-12, taken-13, left-out, not-zero, is-zero, fill-1, same-pick}
-use Rattle.partition.proofs.frames.second_chosen.Statement.{statement}
-use Rattle.partition.proofs.frames.second_chosen.Tie as tie
-use Rattle.partition.proofs.frames.second_chosen.Reads as reads
-use Rattle.partition.proofs.frames.second_chosen.Lts as lts
-use Rattle.partition.proofs.frames.framed.Reads as framed-reads
-use Rattle.partition.proofs.arithmetic.inner.Reads as inner-reads
+use Rattle.partition.proofs.lattice.second_chosen.Statement.{statement}
+use Rattle.partition.proofs.lattice.second_chosen.Tie as tie
 
 inner-requires : tie.Need-inner-requires
 inner-requires c κs = let d = c .before .before .before .before .before .before in (within-2 (d .pre .0), all-wider 16 30000 (d .args .w) (lit≤ tt) (d .pre .1 .1))

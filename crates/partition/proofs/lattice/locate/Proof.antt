@@ -11,19 +11,13 @@ use native.Mathlib.Nat.{le-trans}
 use Rattle.partition.proofs.Whole.{quot-size}
 use Rattle.integers.specs.Bounds.{told, back}
 use Rattle.integers.specs.Machine.{reads}
-use Rattle.integers.specs.Vector.{AllWithin, all-wider}
-use Rattle.integers.specs.Vector.{dots}
+use Rattle.integers.specs.Vector.{AllWithin, all-wider, dots}
 use Rattle.partition.proofs.Four.{dot-within}
 use Rattle.partition.proofs.Located.{located, within-1, within-2, within-3, length-1, length-2, length-3, determinant-within}
 use borrow.Author.Needs.{needs}
-use Rattle.partition.proofs.frames.locate.Statement.{statement}
-use Rattle.partition.proofs.frames.locate.Tie as tie
-use Rattle.partition.proofs.frames.locate.Reads as reads
-use Rattle.partition.proofs.frames.locate.Lts as lts
-use Rattle.partition.proofs.frames.all_three.Reads as all-three-reads
-use Rattle.partition.proofs.frames.exact.Reads as exact-reads
-use Rattle.partition.proofs.arithmetic.inner.Reads as inner-reads
-use Rattle.partition.proofs.frames.quotient.Reads as quotient-reads
+use Rattle.partition.proofs.lattice.locate.Statement.{statement}
+use Rattle.partition.proofs.lattice.locate.Tie as tie
+use Rattle.partition.proofs.lattice.locate.Reads as reads
 
 abbrev S : Type 0
 S = tie.Start

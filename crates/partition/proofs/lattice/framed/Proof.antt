@@ -1,23 +1,17 @@
 -- `partition::framed` meets its contract. Assumes nothing.
 use mathlib.Core.Path.{_≡_, refl, sym, _∙_, ap, subst}
 use mathlib.Core.List.{List}
-use Prim.Native.Nat.{_≤_}
 use lib.Dec.{lit≤}
 use lib.IntN.{ℤ}
 use mir.Syntax.{w64}
 use mir.Val.{toZ, ofZ}
 use Rattle.integers.specs.Bounds.{told}
-use Rattle.integers.specs.Vector.{AllWithin, all-wider}
-use Rattle.integers.specs.Vector.{dots}
+use Rattle.integers.specs.Vector.{AllWithin, all-wider, dots}
 use Rattle.partition.specs.Basis.{normal}
 use Rattle.partition.proofs.Sizes.{normal-within}
 use borrow.Author.Needs.{needs}
-use Rattle.partition.proofs.frames.framed.Statement.{statement}
-use Rattle.partition.proofs.frames.framed.Tie as tie
-use Rattle.partition.proofs.frames.framed.Reads as reads
-use Rattle.partition.proofs.frames.framed.Lts as lts
-use Rattle.partition.proofs.arithmetic.inner.Reads as inner-reads
-use Rattle.partition.proofs.arithmetic.normal.Reads as normal-reads
+use Rattle.partition.proofs.lattice.framed.Statement.{statement}
+use Rattle.partition.proofs.lattice.framed.Tie as tie
 
 normal-requires : tie.Need-normal-requires
 normal-requires c κs = search needs

@@ -4,13 +4,8 @@ use native.Mathlib.Omega.{arith}
 use Rattle.integers.specs.Vector.{dots}
 use Rattle.partition.proofs.Exchange.{left-out, fill-3}
 use borrow.Author.Needs.{needs}
-use Rattle.partition.proofs.frames.extended.Statement.{statement}
-use Rattle.partition.proofs.frames.extended.Tie as tie
-use Rattle.partition.proofs.frames.extended.Reads as reads
-use Rattle.partition.proofs.frames.extended.Lts as lts
-use Rattle.partition.proofs.frames.first_chosen.Reads as first-chosen-reads
-use Rattle.partition.proofs.frames.second_chosen.Reads as second-chosen-reads
-use Rattle.partition.proofs.frames.third_chosen.Reads as third-chosen-reads
+use Rattle.partition.proofs.lattice.extended.Statement.{statement}
+use Rattle.partition.proofs.lattice.extended.Tie as tie
 
 first-chosen-requires : tie.Need-first-chosen-requires
 first-chosen-requires c κs = search needs

@@ -3,8 +3,7 @@ use mathlib.Core.Path.{_≡_, sym, _∙_, ap}
 use mathlib.Core.Bool.{true}
 use native.Mathlib.Omega.{arith}
 use lib.Dec.{eqb}
-use lib.IntN.{ℤ, pos, _*ℤ_}
-use lib.IntN.{zero-*ℤ}
+use lib.IntN.{ℤ, pos, _*ℤ_, zero-*ℤ}
 use lib.Signed.{remZ}
 use mir.Syntax.{w64}
 use mir.Val.{ofZ}
@@ -15,10 +14,9 @@ use Rattle.integers.specs.Machine.{reads}
 use Rattle.integers.specs.Tests.{same}
 use Rattle.partition.proofs.Whole.{bits-nonzero, quot-fits, rem-fits, whole-yes, whole-no}
 use Rattle.integers.specs.Lists.{clash}
-use Rattle.partition.proofs.frames.exact.Statement.{statement}
-use Rattle.partition.proofs.frames.exact.Tie as tie
-use Rattle.partition.proofs.frames.exact.Reads as reads
-use Rattle.partition.proofs.frames.exact.Lts as lts
+use Rattle.partition.proofs.lattice.exact.Statement.{statement}
+use Rattle.partition.proofs.lattice.exact.Tie as tie
+use Rattle.partition.proofs.lattice.exact.Reads as reads
 
 rem-result : tie.Need-rem-result
 rem-result c = let d = c .before in (bits-nonzero (d .args .d) (d .pre .2) (d .pre .0), quot-fits (d .args .t) (d .args .d) (d .pre .1) (d .pre .2))

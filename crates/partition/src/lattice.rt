@@ -1,4 +1,4 @@
-// A basis of four vectors, the time vector and the chosen ones among them, and the coordinates of a vector in it.
+// A basis of P, the chosen vectors and unit vectors; the coordinates of a vector in it by Cramer's rule, and one more chosen vector by exchange.
 use crate::arithmetic::inner;
 use crate::arithmetic::normal;
 ghost use mathlib.Core.Path.{_≡_};
@@ -26,7 +26,7 @@ pub struct Frame {
     pub count: usize,
 }
 
-// The frame of a basis: its determinant, and the vectors that give coordinates.
+// The frame of a basis.
 pub fn framed(count: usize, p: [i64; 4], v1: [i64; 4], v2: [i64; 4], v3: [i64; 4]) -> Frame
     requires { ⌜ Ready p count v1 v2 v3 ⌝ }
     ensures { λ r. ⌜ Framed (r .p) (r .count) (r .v1) (r .v2) (r .v3) (r .f1) (r .f2) (r .f3) (r .d) ⌝ }
@@ -58,7 +58,7 @@ pub fn exact(t: i64, d: i64, chosen: bool) -> bool
     if chosen { t % d == 0 } else { t == 0 }
 }
 
-// t / d, rounded towards zero; t is a multiple of d wherever the answer is used.
+// t / d, where it is exact.
 pub fn quotient(t: i64, d: i64) -> i64
     requires { ⌜ (d ≡ pos 0 → ⊥) × (natAbs t ≤ 1000000000) × (natAbs d ≤ 1000000000) ⌝ }
     ensures { λ r. ⌜ r ≡ quotZ t d ⌝ }
@@ -66,14 +66,14 @@ pub fn quotient(t: i64, d: i64) -> i64
     t / d
 }
 
-// Whether three tests pass.
+// Whether all three hold.
 pub fn all_three(a: bool, b: bool, c: bool) -> bool
     ensures { λ r. ⌜ r ≡ a && b && c ⌝ }
 {
     if a { if b { c } else { false } } else { false }
 }
 
-// Where a vector lies in a frame: whether it is in the class of the origin, and its coordinates along the three vectors if it is.
+// Where a vector stands in a frame: whether it is a whole combination of the chosen projections, and its coordinates.
 pub struct Position {
     pub inside: bool,
     pub c1: i64,
@@ -135,7 +135,7 @@ pub fn start(p: [i64; 4]) -> Frame
     framed(0, p, x, y, z)
 }
 
-// The first chosen vector, if its projection is not zero: it takes the place of a unit vector.
+// One more vector, if its projection is linearly independent of the chosen ones: it takes the place of a unit vector.
 pub fn first_chosen(f: Frame, w: [i64; 4]) -> Frame
     requires { ⌜ Framed (f .p) (f .count) (f .v1) (f .v2) (f .v3) (f .f1) (f .f2) (f .f3) (f .d) ⌝ }
     requires { ⌜ (f .count ≡ 0) × AllWithin 16 w ⌝ }
@@ -161,7 +161,7 @@ pub fn first_chosen(f: Frame, w: [i64; 4]) -> Frame
     f
 }
 
-// The second one, if its projection is linearly independent of the first one's.
+// The second, as the first.
 pub fn second_chosen(f: Frame, w: [i64; 4]) -> Frame
     requires { ⌜ Framed (f .p) (f .count) (f .v1) (f .v2) (f .v3) (f .f1) (f .f2) (f .f3) (f .d) ⌝ }
     requires { ⌜ (f .count ≡ 1) × AllWithin 16 w ⌝ }
@@ -183,7 +183,7 @@ pub fn second_chosen(f: Frame, w: [i64; 4]) -> Frame
     f
 }
 
-// The third one, if its projection is linearly independent of the two before.
+// The third.
 pub fn third_chosen(f: Frame, w: [i64; 4]) -> Frame
     requires { ⌜ Framed (f .p) (f .count) (f .v1) (f .v2) (f .v3) (f .f1) (f .f2) (f .f3) (f .d) ⌝ }
     requires { ⌜ (f .count ≡ 2) × AllWithin 16 w ⌝ }
@@ -200,7 +200,7 @@ pub fn third_chosen(f: Frame, w: [i64; 4]) -> Frame
     f
 }
 
-// One more vector, if its projection is linearly independent of the chosen ones.
+// One more vector tried, whatever is chosen already.
 pub fn extended(f: Frame, w: [i64; 4]) -> Frame
     requires { ⌜ Framed (f .p) (f .count) (f .v1) (f .v2) (f .v3) (f .f1) (f .f2) (f .f3) (f .d) ⌝ }
     requires { ⌜ AllWithin 16 w ⌝ }

@@ -5,10 +5,9 @@ use lib.Signed.{quotZ}
 use Rattle.integers.specs.Bounds.{told, back}
 use Rattle.integers.specs.Machine.{reads}
 use Rattle.partition.proofs.Whole.{bits-nonzero, quot-fits}
-use Rattle.partition.proofs.frames.quotient.Statement.{statement}
-use Rattle.partition.proofs.frames.quotient.Tie as tie
-use Rattle.partition.proofs.frames.quotient.Reads as reads
-use Rattle.partition.proofs.frames.quotient.Lts as lts
+use Rattle.partition.proofs.lattice.quotient.Statement.{statement}
+use Rattle.partition.proofs.lattice.quotient.Tie as tie
+use Rattle.partition.proofs.lattice.quotient.Reads as reads
 
 div-result : tie.Need-div-result
 div-result c = (bits-nonzero (c .args .d) (c .pre .2) (c .pre .0), quot-fits (c .args .t) (c .args .d) (c .pre .1) (c .pre .2))
