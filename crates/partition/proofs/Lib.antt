@@ -30,6 +30,7 @@ pub mod Numbering
 pub mod Padded
 pub mod Sizes
 pub mod Smallest
+pub mod StepLaws
 pub mod Steps
 pub mod Table
 pub mod Vectors

@@ -1,14 +1,17 @@
 // What the partition takes from a loop nest, as rows of four numbers with zeros behind the depth.
+use crate::arithmetic::serves;
 use crate::choice::choose;
 use crate::choice::group_size;
 use crate::choice::grouping_index;
 use crate::groups::put_row;
 use crate::lattice::Frame;
+use crate::lattice::quotient;
 use nest::LoopNest;
 ghost use mathlib.Core.Path.{_≡_};
 ghost use mathlib.Core.List.{map};
 ghost use Prim.Native.Nat.{_+_, _*_, _<_, _≤_};
-ghost use lib.IntN.{natAbs};
+ghost use lib.IntN.{pos, natAbs};
+ghost use lib.Signed.{_≤ℤ_};
 ghost use lib.ListN.{length};
 ghost use Rattle.integers.specs.Vector.{AllWithin};
 ghost use Rattle.nest.specs.Nest.{part, padded, depthOf, countOf, timeOf, dependencesOf};
@@ -92,6 +95,35 @@ pub fn fill_points(s: LoopNest, n: usize, points: &mut [i64])
     }
 }
 
+// The components of v, each divided by g.
+pub fn divided(v: [i64; 4], g: i64) -> [i64; 4]
+    requires { ⌜ AllWithin 16 v × (pos 1 ≤ℤ g) × (natAbs g ≤ 16) ⌝ }
+    ensures { λ r. ⌜ AllWithin 16 r ⌝ }
+{
+    [
+        quotient(v[0], g),
+        quotient(v[1], g),
+        quotient(v[2], g),
+        quotient(v[3], g),
+    ]
+}
+
+// The shortest step along p: its components divided by their greatest common divisor, which is at most 16.
+pub fn shortest(p: [i64; 4]) -> [i64; 4]
+    requires { ⌜ AllWithin 16 p ⌝ }
+    ensures { λ r. ⌜ AllWithin 16 r ⌝ }
+{
+    let mut g: usize = 16;
+    while g > 1 {
+        let d = g as i64;
+        if serves(p, d, 1, 4) {
+            return divided(p, d);
+        }
+        g -= 1;
+    }
+    p
+}
+
 // A point and p, once or less once.
 pub fn beside(j: [i64; 3], p: [i64; 4], sign: i64) -> [i64; 3]
     requires { ⌜ AllWithin 1000 j × AllWithin 16 p × (natAbs sign ≤ 1) ⌝ }
@@ -99,7 +131,7 @@ pub fn beside(j: [i64; 3], p: [i64; 4], sign: i64) -> [i64; 3]
     [j[0] + sign * p[0], j[1] + sign * p[1], j[2] + sign * p[2]]
 }
 
-// The rank of the iteration one time vector p from iteration k, on the side that comes earlier in loop order; not below k where there is none.
+// The rank of the iteration one step p from iteration k, on the side that comes earlier in loop order; not below k where there is none.
 pub fn neighbour(s: LoopNest, p: [i64; 4], k: usize) -> usize
     requires { ⌜ (refusal s ≡ 0) × (k < length (pointsOf s)) × AllWithin 16 p ⌝ }
 {
@@ -116,7 +148,7 @@ pub fn fill_earlier(s: LoopNest, n: usize, earlier: &mut [usize])
     requires { ⌜ (refusal s ≡ 0) × (n ≡ length (pointsOf s)) × (n ≤ length (now earlier)) ⌝ }
     ensures { λ r. ⌜ length (now (earlier .exit)) ≡ length (now (earlier .entry)) ⌝ }
 {
-    let p = time_vector(s, nest::to_size(s.depth));
+    let p = shortest(time_vector(s, nest::to_size(s.depth)));
     for k in 0..n {
         earlier[k] = neighbour(s, p, k);
     }

@@ -5,6 +5,7 @@ mod groups;
 mod inputs;
 mod lattice;
 mod numbers;
+mod schedule;
 
 use crate::groups::key_table;
 use crate::inputs::fill_earlier;
@@ -12,6 +13,7 @@ use crate::inputs::fill_points;
 use crate::inputs::frame_of;
 use crate::inputs::size_of;
 use crate::numbers::number_table;
+pub use crate::schedule::steps_into;
 use nest::LoopNest;
 ghost use mathlib.Core.Path.{_≡_};
 ghost use mathlib.Core.List.{_++_};

@@ -27,20 +27,23 @@ to-size-requires c κs = search needs
 time-vector-requires : tie.Need-time-vector-requires Inv-loop μ-loop
 time-vector-requires c κs = let d = c .before .before .before in (d .pre .0, c .to-size .ensures ∙ ap toℕ (told (d .args .s .depth) (c .before .struct-told .given .0 .1)))
 
+shortest-requires : tie.Need-shortest-requires Inv-loop μ-loop
+shortest-requires c κs = let d = c .before .before .before .before in subst (AllWithin 16) (sym (c .time-vector .ensures)) (time-within (d .args .s) (d .pre .0))
+
 loop-holds : tie.Need-loop-holds Inv-loop μ-loop
-loop-holds c = let d = c .before .before .before .before in (omega arith, refl, subst (AllWithin 16) (sym (c .time-vector .ensures)) (time-within (d .args .s) (d .pre .0)))
+loop-holds c = (omega arith, refl, c .shortest .ensures)
 
 neighbour-requires : tie.Need-neighbour-requires Inv-loop μ-loop
-neighbour-requires c κs = let d = c .before .before .before .before .before .before in let w = c .loop-test .taken in (d .pre .0, subst (λ (m : ℕ). c .before .loop .k < m) (d .pre .1) w, c .before .loop .inv .2)
+neighbour-requires c κs = let d = c .before .before .before .before .before .before .before in let w = c .loop-test .taken in (d .pre .0, subst (λ (m : ℕ). c .before .loop .k < m) (d .pre .1) w, c .before .loop .inv .2)
 
 mul-earlier : tie.Need-mul-earlier Inv-loop μ-loop
-mul-earlier c = let w = c .before .loop-test .taken in omega (arith, w, few (c .before .before .before .before .before .before .before))
+mul-earlier c = let w = c .before .loop-test .taken in omega (arith, w, few (c .before .before .before .before .before .before .before .before))
 
 slice-write-earlier : tie.Need-slice-write-earlier Inv-loop μ-loop
-slice-write-earlier c = let w = c .before .loop-test .taken in let z = c .before .before .loop .inv .1 in omega (arith, w, z, c .before .before .before .before .before .before .before .pre .2)
+slice-write-earlier c = let w = c .before .loop-test .taken in let z = c .before .before .loop .inv .1 in omega (arith, w, z, c .before .before .before .before .before .before .before .before .pre .2)
 
 add-k : tie.Need-add-k Inv-loop μ-loop
-add-k c = let w = c .before .loop-test .taken in omega (arith, w, few (c .before .before .before .before .before .before .before))
+add-k c = let w = c .before .loop-test .taken in omega (arith, w, few (c .before .before .before .before .before .before .before .before))
 
 loop-less : tie.Need-loop-less Inv-loop μ-loop
 loop-less c = let w = c .before .loop-test .taken in omega (arith, w)
@@ -65,6 +68,7 @@ fill-earlier-spec =
     μ-loop
     to-size-requires
     time-vector-requires
+    shortest-requires
     loop-holds
     neighbour-requires
     mul-earlier
