@@ -1,2 +1,4 @@
 -- The laws that the functions' proofs share.
+pub mod Bridge
 pub mod LineLaws
+pub mod PlanLaws

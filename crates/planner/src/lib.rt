@@ -1,2 +1,128 @@
-// The plan of a loop nest and its listing: definitions in specs/, and the lines that the listing consists of.
+// The plan of a loop nest: its steps, blocks, processors and values, and the counts of them (000, algorithms 1 and 2); and the lines that a listing has.
 mod lines;
+
+use nest::LoopNest;
+use nest::SHORT_BUFFER;
+ghost use mathlib.Core.Path.{_≡_};
+ghost use mathlib.Core.List.{_++_};
+ghost use Prim.Native.Nat.{_≤_};
+ghost use lib.ListN.{length, drop};
+ghost use Rattle.nest.specs.Points.{pointsOf};
+ghost use Rattle.nest.specs.Refusals.{refusal, orElse, shortBuffer};
+ghost use Rattle.partition.specs.Partition.{stepsOf, blocksOf, blockCount};
+ghost use Rattle.mapping.specs.Mapping.{processorsOf};
+ghost use Rattle.sequential.specs.Sequential.{valuesOf};
+ghost use Rattle.planner.specs.Plan.{planRefusal, planAnswer, tableAfter};
+
+// What `plan` answers: the number of the first refusal with every count 0, or 0 with the counts.
+pub struct Planning {
+    pub refusal: u8,
+    pub iterations: usize,
+    pub steps: usize,
+    pub blocks: usize,
+    // processors that hold an iteration
+    pub processors: usize,
+    pub messages: usize,
+}
+
+// The answer to a refused call.
+fn refused(refusal: u8) -> Planning
+    ensures { λ r. ⌜ r ≡ record { refusal = refusal; iterations = 0; steps = 0; blocks = 0; processors = 0; messages = 0 } ⌝ }
+{
+    Planning {
+        refusal: refusal,
+        iterations: 0,
+        steps: 0,
+        blocks: 0,
+        processors: 0,
+        messages: 0,
+    }
+}
+
+// 14 if one of four tables has fewer entries than there are iterations, 0 otherwise.
+fn check_room(n: usize, steps: usize, blocks: usize, processors: usize, values: usize) -> u8
+    ensures { λ r. ⌜ r ≡ orElse (shortBuffer n steps) (orElse (shortBuffer n blocks) (orElse (shortBuffer n processors) (shortBuffer n values))) ⌝ }
+{
+    if steps < n {
+        return SHORT_BUFFER;
+    }
+    if blocks < n {
+        return SHORT_BUFFER;
+    }
+    if processors < n {
+        return SHORT_BUFFER;
+    }
+    if values < n { SHORT_BUFFER } else { 0 }
+}
+
+// The blocks and the processors of the n iterations of an accepted nest, into two tables. Answers how many blocks there are.
+fn place_blocks(s: LoopNest, n: usize, blocks: &mut [u16], processors: &mut [u8]) -> usize
+    requires { ⌜ (refusal s ≡ 0) × (n ≡ length (pointsOf s)) × (n ≤ length (now blocks)) × (n ≤ length (now processors)) ⌝ }
+    ensures { λ r. ⌜ r ≡ blockCount s ⌝ }
+    ensures { λ r. ⌜ now (blocks .exit) ≡ blocksOf s ++ drop n (now (blocks .entry)) ⌝ }
+    ensures { λ r. ⌜ now (processors .exit) ≡ processorsOf s ++ drop n (now (processors .entry)) ⌝ }
+{
+    let mut keys = [0i64; 16384];
+    let count = partition::blocks_into(s, n, &mut keys, blocks);
+    let cube = nest::to_size(s.cube);
+    mapping::processors_into(&keys, n, cube, processors);
+    count
+}
+
+// The plan of an accepted nest of n iterations, into four tables.
+fn make(
+    s: LoopNest,
+    n: usize,
+    steps: &mut [u32],
+    blocks: &mut [u16],
+    processors: &mut [u8],
+    values: &mut [u16],
+) -> Planning
+    requires { ⌜ (refusal s ≡ 0) × (n ≡ length (pointsOf s)) × (n ≤ length (now steps)) × (n ≤ length (now blocks)) × (n ≤ length (now processors)) × (n ≤ length (now values)) ⌝ }
+    ensures { λ r. ⌜ r ≡ planAnswer s 0 ⌝ }
+    ensures { λ r. ⌜ now (steps .exit) ≡ stepsOf s ++ drop n (now (steps .entry)) ⌝ }
+    ensures { λ r. ⌜ now (blocks .exit) ≡ blocksOf s ++ drop n (now (blocks .entry)) ⌝ }
+    ensures { λ r. ⌜ now (processors .exit) ≡ processorsOf s ++ drop n (now (processors .entry)) ⌝ }
+    ensures { λ r. ⌜ now (values .exit) ≡ valuesOf s ++ drop n (now (values .entry)) ⌝ }
+{
+    let step_count = partition::steps_into(s, n, steps);
+    let block_count = place_blocks(s, n, blocks, processors);
+    let processor_count = mapping::processor_count(processors, n);
+    let message_count = mapping::message_count(s, n, processors);
+    sequential::fill(s, values);
+    Planning {
+        refusal: 0,
+        iterations: n,
+        steps: step_count,
+        blocks: block_count,
+        processors: processor_count,
+        messages: message_count,
+    }
+}
+
+// The plan of a loop nest, into four tables.
+pub fn plan(
+    s: LoopNest,
+    steps: &mut [u32],
+    blocks: &mut [u16],
+    processors: &mut [u8],
+    values: &mut [u16],
+) -> Planning
+    ensures { λ r. ⌜ r ≡ planAnswer s (planRefusal s (length (now (steps .entry))) (length (now (blocks .entry))) (length (now (processors .entry))) (length (now (values .entry)))) ⌝ }
+    ensures { λ r. ⌜ now (steps .exit) ≡ tableAfter (r .refusal) (stepsOf s) (now (steps .entry)) ⌝ }
+    ensures { λ r. ⌜ now (blocks .exit) ≡ tableAfter (r .refusal) (blocksOf s) (now (blocks .entry)) ⌝ }
+    ensures { λ r. ⌜ now (processors .exit) ≡ tableAfter (r .refusal) (processorsOf s) (now (processors .entry)) ⌝ }
+    ensures { λ r. ⌜ now (values .exit) ≡ tableAfter (r .refusal) (valuesOf s) (now (values .entry)) ⌝ }
+{
+    let known = nest::inspect(s);
+    let refusal = known.refusal;
+    let n = known.iterations;
+    if refusal != 0 {
+        return refused(refusal);
+    }
+    let room = check_room(n, steps.len(), blocks.len(), processors.len(), values.len());
+    if room != 0 {
+        return refused(room);
+    }
+    make(s, n, steps, blocks, processors, values)
+}

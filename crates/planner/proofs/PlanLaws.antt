@@ -1,0 +1,147 @@
+-- Room in the four tables, and the ways out of `plan`. Assumes nothing.
+use mathlib.Core.Path.{_≡_, refl, sym, ap, _∙_}
+use mathlib.Core.List.{List, _++_}
+use mathlib.Core.Logic.{_⊎_, inl, inr}
+use Prim.Native.Nat.{ℕ, _<_, _≤_}
+use native.Mathlib.Omega.{arith}
+use borrow.Author.Tests.{eq-eqb, ne-eqb}
+use lib.ListN.{length, drop}
+use Rattle.integers.specs.Lists.{below-or-not}
+use Rattle.nest.specs.declared.LoopNest.{LoopNest}
+use Rattle.nest.specs.Points.{pointsOf}
+use Rattle.nest.specs.Refusals.{refusal, orElse, shortBuffer}
+use Rattle.nest.proofs.Entries.{orElse-first, orElse-second, orElse-zero, long-enough, too-short}
+use Rattle.partition.specs.Partition.{stepsOf, blocksOf}
+use Rattle.partition.proofs.Theorems.{steps-length, blocks-length}
+use Rattle.mapping.specs.Mapping.{processorsOf}
+use Rattle.mapping.proofs.Theorems.{processors-length}
+use Rattle.sequential.specs.Sequential.{sequential, ruleOf, valuesOf}
+use Rattle.sequential.proofs.LoopLaws.{loop-length}
+use Rattle.planner.specs.declared.Planning.{Planning}
+use Rattle.planner.specs.Plan.{planRefusal, planAnswer, tableAfter}
+
+-- ---- room for n entries
+
+-- 14 if one of four tables is too short
+abbrev pub noRoom : ℕ → ℕ → ℕ → ℕ → ℕ → ℕ
+noRoom n a b c d = orElse (shortBuffer n a) (orElse (shortBuffer n b) (orElse (shortBuffer n c) (shortBuffer n d)))
+
+-- a short table is the answer
+pub short-here : (n a k : ℕ) → a < n → orElse (shortBuffer n a) k ≡ 14
+short-here n a k h =
+    let e = too-short n a h in
+    orElse-first (shortBuffer n a) k (λ z. absurd (omega arith)) ∙ e
+
+-- a long one leaves it to the others
+pub long-here : (n a k : ℕ) → n ≤ a → orElse (shortBuffer n a) k ≡ k
+long-here n a k h = orElse-second (shortBuffer n a) k (long-enough n a h)
+
+-- a table that is not short is long
+enough : (n a : ℕ) → shortBuffer n a ≡ 0 → n ≤ a
+enough n a e = go (below-or-not a n)
+  where
+    go : (a < n) ⊎ (n ≤ a) → n ≤ a
+    go (inl h) = let q = too-short n a h in absurd (omega arith)
+    go (inr h) = h
+
+-- where none is short, all are long
+pub all-enough : (n a b c d : ℕ) → noRoom n a b c d ≡ 0 → (n ≤ a) × (n ≤ b) × (n ≤ c) × (n ≤ d)
+all-enough n a b c d e =
+    let p = orElse-zero (shortBuffer n a) (orElse (shortBuffer n b) (orElse (shortBuffer n c) (shortBuffer n d))) e in
+    let q = orElse-zero (shortBuffer n b) (orElse (shortBuffer n c) (shortBuffer n d)) (p .1) in
+    let r = orElse-zero (shortBuffer n c) (shortBuffer n d) (q .1) in
+    (enough n a (p .0), enough n b (q .0), enough n c (r .0), enough n d (r .1))
+
+-- ---- a table after the call
+
+-- a refusal leaves it as it was
+same-table : (k : ℕ) (table old : List ℕ) → (k ≡ 0 → ⊥) → tableAfter k table old ≡ old
+unfolding tableAfter
+same-table k table old h = rw (tableAfter, ne-eqb k 0 h) refl
+
+-- else it holds n entries, and what stood behind them
+made-table : (k n : ℕ) (table old : List ℕ) → k ≡ 0 → length table ≡ n → tableAfter k table old ≡ table ++ drop n old
+unfolding tableAfter
+made-table k n table old e q = rw (tableAfter, eq-eqb k 0 e) (ap (λ i. table ++ drop i old) q)
+
+-- each iteration has a value
+values-length : (s : LoopNest) → length (valuesOf s) ≡ length (pointsOf s)
+unfolding valuesOf sequential
+values-length s = loop-length (ruleOf s) s (length (pointsOf s))
+
+-- ---- the ways out
+-- every count is 0
+abbrev pub refusedWith : ℕ → Planning
+refusedWith k = record { refusal = k; iterations = 0; steps = 0; blocks = 0; processors = 0; messages = 0 }
+
+-- what a refused call answers
+refused-answer : (s : LoopNest) (k : ℕ) → (k ≡ 0 → ⊥) → planAnswer s k ≡ refusedWith k
+unfolding planAnswer
+refused-answer s k h = rw (planAnswer, ne-eqb k 0 h) refl
+
+-- the number of an accepted one
+accepted-number : (s : LoopNest) → planAnswer s 0 .refusal ≡ 0
+unfolding planAnswer
+accepted-number s = refl
+
+module _ (s : LoopNest) (a b c d : List ℕ) where
+  -- the number that the call answers
+  abbrev pub number : ℕ
+  number = planRefusal s (length a) (length b) (length c) (length d)
+
+  -- the answer, and the four tables after the call
+  abbrev pub Planned : Planning → List ℕ → List ℕ → List ℕ → List ℕ → Type 0
+  Planned r a′ b′ c′ d′ =
+      (r ≡ planAnswer s number)
+      × ((a′ ≡ tableAfter (r .refusal) (stepsOf s) a)
+      × ((b′ ≡ tableAfter (r .refusal) (blocksOf s) b) × ((c′ ≡ tableAfter (r .refusal) (processorsOf s) c) × (d′ ≡ tableAfter (r .refusal) (valuesOf s) d))))
+
+  -- refused with this number
+  refused-call : (r : Planning) (k : ℕ) → r ≡ refusedWith k → number ≡ k → (k ≡ 0 → ⊥) → Planned r a b c d
+  refused-call r k q e h = (
+    q ∙ sym (refused-answer s k h) ∙ ap (planAnswer s) (sym e),
+    (
+      sym (same-table (r .refusal) (stepsOf s) a g),
+      (sym (same-table (r .refusal) (blocksOf s) b g), (sym (same-table (r .refusal) (processorsOf s) c g), sym (same-table (r .refusal) (valuesOf s) d g))),
+    ),
+  )
+    where
+      g : r .refusal ≡ 0 → ⊥
+      g z = h (sym (ap (λ (x : Planning). x .refusal) q) ∙ z)
+
+  -- the nest is refused
+  pub refused-nest : (r : Planning) (k : ℕ) → r ≡ refusedWith k → k ≡ refusal s → (k ≡ 0 → ⊥) → Planned r a b c d
+  refused-nest r k q e h =
+      refused-call r k q (unfold planRefusal in orElse-first (refusal s) (noRoom (length (pointsOf s)) (length a) (length b) (length c) (length d)) (λ z. h (e ∙ z)) ∙ sym e) h
+
+  module _ (ok : refusal s ≡ 0) (n : ℕ) (count : n ≡ length (pointsOf s)) where
+    -- it lies with the tables
+    behind : number ≡ noRoom n (length a) (length b) (length c) (length d)
+    behind =
+        unfold planRefusal in
+        orElse-second (refusal s) (noRoom (length (pointsOf s)) (length a) (length b) (length c) (length d)) ok
+        ∙ ap (λ m. noRoom m (length a) (length b) (length c) (length d)) (sym count)
+
+    -- a table is too short
+    pub short-table : (r : Planning) (k : ℕ) → r ≡ refusedWith k → k ≡ noRoom n (length a) (length b) (length c) (length d) → (k ≡ 0 → ⊥) → Planned r a b c d
+    short-table r k q e h = refused-call r k q (behind ∙ sym e) h
+
+    -- the plan is made
+    pub made-plan : (r : Planning) (a′ b′ c′ d′ : List ℕ) → noRoom n (length a) (length b) (length c) (length d) ≡ 0 → r ≡ planAnswer s 0 → a′ ≡ stepsOf s ++ drop n a
+        → b′ ≡ blocksOf s ++ drop n b → c′ ≡ processorsOf s ++ drop n c → d′ ≡ valuesOf s ++ drop n d → Planned r a′ b′ c′ d′
+    made-plan r a′ b′ c′ d′ e q ea eb ec ed = (
+      q ∙ ap (planAnswer s) (sym (behind ∙ e)),
+      (
+        ea ∙ sym (made-table (r .refusal) n (stepsOf s) a g (steps-length s ok ∙ sym count)),
+        (
+          eb ∙ sym (made-table (r .refusal) n (blocksOf s) b g (blocks-length s ok ∙ sym count)),
+          (
+            ec ∙ sym (made-table (r .refusal) n (processorsOf s) c g (processors-length s ∙ sym count)),
+            ed ∙ sym (made-table (r .refusal) n (valuesOf s) d g (values-length s ∙ sym count)),
+          ),
+        ),
+      ),
+    )
+      where
+        g : r .refusal ≡ 0
+        g = ap (λ (x : Planning). x .refusal) q ∙ accepted-number s
