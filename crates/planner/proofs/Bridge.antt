@@ -36,7 +36,7 @@ key-is keys k (suc zero) h = refl
 key-is keys k (suc (suc zero)) h = refl
 key-is keys k (suc (suc (suc j))) h = absurd (omega arith)
 
--- with at most two auxiliary vectors, a group's values in the order of the directions are q, b and the class
+-- with at most two chosen vectors, a group's values in the order of the directions are q, b and the class
 order-is : (count : ℕ) (x y z : ℤ) (g : Group) → count ≤ 2 → Fill count x y z → pick count x y z ≡ g .along → x ∷ y ∷ pos (g .class) ∷ [] ≡ inOrder g
 unfolding inOrder padded
 order-is zero x y z g h f e =
@@ -53,7 +53,7 @@ values-are keys k count g h r =
     ap (λ (a : ℤ). keyAt keys 1 k ∷ keyAt keys 2 k ∷ a ∷ []) (key-is keys k 0 (omega arith) ∙ r .class-is) ∙ order-is count (keyAt keys 1 k) (keyAt keys 2 k) (getD (row keys k) 3 (pos 0)) g h (r .fill) (r .along-is)
 
 module _ (s : LoopNest) (ok : refusal s ≡ 0) (keys₀ keys : List ℤ) (T : GroupTable s keys₀ keys) (h : length (pointsOf s) * 4 ≤ length keys₀) where
-  -- at most two auxiliary vectors
+  -- at most two chosen vectors
   few : chosenCount (timeOf s) (dependencesOf s) ≤ 2
   few = omega (arith, chosen-bound s ok, depth-is s ok .1)
 
