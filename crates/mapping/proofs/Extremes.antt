@@ -15,8 +15,9 @@ use Rattle.integers.specs.Order.{≤-trans}
 use Rattle.integers.specs.Tests.{signed}
 use Rattle.integers.specs.Lists.{tab, tab-more, length-tab}
 use Rattle.partition.specs.Projection.{leastZ}
+use Rattle.partition.specs.Periods.{maxZ}
 use Rattle.mapping.specs.Mapping.{greatestZ}
-use Rattle.mapping.specs.Keys.{lesserZ, largerZ}
+use Rattle.mapping.specs.Keys.{lesserZ}
 
 antisymm : (a b : ℤ) → a ≤ℤ b → b ≤ℤ a → a ≡ b
 antisymm a b h k = omega ints
@@ -138,41 +139,41 @@ least-sized f n A h s = go (tab f n) (omega (arith, length-tab f n)) (mem-tab f 
     go (x ∷ xs) l m = let r = m (leastZ (x ∷ xs)) (least-mem x xs) in subst (λ z. natAbs z ≤ A) (sym (r .2)) (s (r .0) (r .1))
 
 -- ---- the larger of two
-larger-left : (a b : ℤ) → a ≤ℤ largerZ a b
-unfolding largerZ
+larger-left : (a b : ℤ) → a ≤ℤ maxZ a b
+unfolding maxZ
 larger-left a b = go (ltZ a b) refl
   where
     go : (t : Bool) → ltZ a b ≡ t → a ≤ℤ elim t as (λ _. ℤ) [ true ↦ b | false ↦ a ]
     go true e = omega signed
     go false e = ≤ℤ-refl a
 
-larger-right : (a b : ℤ) → b ≤ℤ largerZ a b
-unfolding largerZ
+larger-right : (a b : ℤ) → b ≤ℤ maxZ a b
+unfolding maxZ
 larger-right a b = go (ltZ a b) refl
   where
     go : (t : Bool) → ltZ a b ≡ t → b ≤ℤ elim t as (λ _. ℤ) [ true ↦ b | false ↦ a ]
     go true e = ≤ℤ-refl b
     go false e = omega signed
 
-larger-most : (a b c : ℤ) → a ≤ℤ c → b ≤ℤ c → largerZ a b ≤ℤ c
-unfolding largerZ
+larger-most : (a b c : ℤ) → a ≤ℤ c → b ≤ℤ c → maxZ a b ≤ℤ c
+unfolding maxZ
 larger-most a b c h k = go (ltZ a b)
   where
     go : (t : Bool) → elim t as (λ _. ℤ) [ true ↦ b | false ↦ a ] ≤ℤ c
     go true = k
     go false = h
 
-larger-assoc : (a b c : ℤ) → largerZ a (largerZ b c) ≡ largerZ (largerZ a b) c
+larger-assoc : (a b c : ℤ) → maxZ a (maxZ b c) ≡ maxZ (maxZ a b) c
 larger-assoc a b c =
-    let p = largerZ a (largerZ b c) in
-    let q = largerZ (largerZ a b) c in
-    let p1 = larger-left a (largerZ b c) in
-    let p2 = ≤-trans b (largerZ b c) p (larger-left b c) (larger-right a (largerZ b c)) in
-    let p3 = ≤-trans c (largerZ b c) p (larger-right b c) (larger-right a (largerZ b c)) in
-    let q1 = ≤-trans a (largerZ a b) q (larger-left a b) (larger-left (largerZ a b) c) in
-    let q2 = ≤-trans b (largerZ a b) q (larger-right a b) (larger-left (largerZ a b) c) in
-    let q3 = larger-right (largerZ a b) c in
-    antisymm p q (larger-most a (largerZ b c) q q1 (larger-most b c q q2 q3)) (larger-most (largerZ a b) c p (larger-most a b p p1 p2) p3)
+    let p = maxZ a (maxZ b c) in
+    let q = maxZ (maxZ a b) c in
+    let p1 = larger-left a (maxZ b c) in
+    let p2 = ≤-trans b (maxZ b c) p (larger-left b c) (larger-right a (maxZ b c)) in
+    let p3 = ≤-trans c (maxZ b c) p (larger-right b c) (larger-right a (maxZ b c)) in
+    let q1 = ≤-trans a (maxZ a b) q (larger-left a b) (larger-left (maxZ a b) c) in
+    let q2 = ≤-trans b (maxZ a b) q (larger-right a b) (larger-left (maxZ a b) c) in
+    let q3 = larger-right (maxZ a b) c in
+    antisymm p q (larger-most a (maxZ b c) q q1 (larger-most b c q q2 q3)) (larger-most (maxZ a b) c p (larger-most a b p p1 p2) p3)
 
 -- ---- the greatest
 
@@ -187,18 +188,18 @@ greatest-mem x (y ∷ ys) = go (ltZ x (greatestZ (y ∷ ys))) (greatest-mem y ys
     go false m = List·Memᴰ·head refl
 
 -- with one more in front
-greatest-cons : (x y : ℤ) (ys : List ℤ) → greatestZ (x ∷ y ∷ ys) ≡ largerZ x (greatestZ (y ∷ ys))
-unfolding greatestZ largerZ
+greatest-cons : (x y : ℤ) (ys : List ℤ) → greatestZ (x ∷ y ∷ ys) ≡ maxZ x (greatestZ (y ∷ ys))
+unfolding greatestZ maxZ
 greatest-cons x y ys = refl
 
 -- and with one more behind
-pub greatest-snoc : (x : ℤ) (xs : List ℤ) (v : ℤ) → greatestZ ((x ∷ xs) ++ (v ∷ [])) ≡ largerZ (greatestZ (x ∷ xs)) v
+pub greatest-snoc : (x : ℤ) (xs : List ℤ) (v : ℤ) → greatestZ ((x ∷ xs) ++ (v ∷ [])) ≡ maxZ (greatestZ (x ∷ xs)) v
 greatest-snoc x [] v = greatest-cons x v [] ∙ one
   where
-    one : largerZ x (greatestZ (v ∷ [])) ≡ largerZ (greatestZ (x ∷ [])) v
+    one : maxZ x (greatestZ (v ∷ [])) ≡ maxZ (greatestZ (x ∷ [])) v
     one = unfold greatestZ in refl
 greatest-snoc x (y ∷ ys) v =
-    greatest-cons x y (ys ++ (v ∷ [])) ∙ ap (largerZ x) (greatest-snoc y ys v) ∙ larger-assoc x (greatestZ (y ∷ ys)) v ∙ ap (λ z. largerZ z v) (sym (greatest-cons x y ys))
+    greatest-cons x y (ys ++ (v ∷ [])) ∙ ap (maxZ x) (greatest-snoc y ys v) ∙ larger-assoc x (greatestZ (y ∷ ys)) v ∙ ap (λ z. maxZ z v) (sym (greatest-cons x y ys))
 
 -- none is above it
 pub greatest-above : (xs : List ℤ) (x : ℤ) → List·Memᴰ x xs → x ≤ℤ greatestZ xs
@@ -222,10 +223,10 @@ pub greatest-tab-one : (f : ℕ → ℤ) → greatestZ (tab f 1) ≡ f 0
 unfolding tab greatestZ
 greatest-tab-one f = refl
 
-pub greatest-tab-more : (f : ℕ → ℤ) (k : ℕ) → 1 ≤ k → greatestZ (tab f (k + 1)) ≡ largerZ (greatestZ (tab f k)) (f k)
+pub greatest-tab-more : (f : ℕ → ℤ) (k : ℕ) → 1 ≤ k → greatestZ (tab f (k + 1)) ≡ maxZ (greatestZ (tab f k)) (f k)
 greatest-tab-more f k h = ap greatestZ (tab-more f k) ∙ go (tab f k) (omega (arith, length-tab f k))
   where
-    go : (xs : List ℤ) → 1 ≤ length xs → greatestZ (xs ++ (f k ∷ [])) ≡ largerZ (greatestZ xs) (f k)
+    go : (xs : List ℤ) → 1 ≤ length xs → greatestZ (xs ++ (f k ∷ [])) ≡ maxZ (greatestZ xs) (f k)
     go [] l = absurd (omega arith)
     go (x ∷ xs) l = greatest-snoc x xs (f k)
 

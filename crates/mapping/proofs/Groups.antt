@@ -17,8 +17,9 @@ use Rattle.integers.specs.Vector.{Vector, eqV, eqV-true, eqV-refl}
 use Rattle.nest.specs.Nest.{toℕ, padded, maxDepth}
 use Rattle.partition.specs.Projection.{leastZ}
 use Rattle.partition.specs.Grouping.{Group, eqG, blocks}
+use Rattle.partition.specs.GroupRows.{noGroup}
 use Rattle.mapping.specs.Mapping.{inOrder, Direction, greatestZ, direction, undealt, withBit, dealt, gray, partOf, joined, processor, total}
-use Rattle.mapping.specs.Keys.{keyAt, valuesIn, noGroup, Laid, column, spanOf, directionsIn, processorsIn, Fits}
+use Rattle.mapping.specs.Keys.{keyAt, valuesIn, Laid, column, spanOf, directionsIn, processorsIn, Fits}
 use Rattle.mapping.proofs.Extremes.{least-same, least-below, greatest-same, greatest-above}
 use Rattle.mapping.proofs.Deals.{at, Gave, bitsOf, NoneTakes, AllRoom, deal-bits-keep, deal-bits-all, gave-room}
 use Rattle.mapping.proofs.Codes.{in-width, gave-fits, code-of-all}

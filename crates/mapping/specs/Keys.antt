@@ -13,6 +13,7 @@ use Rattle.integers.specs.Vector.{Vector}
 use Rattle.nest.specs.Nest.{toℕ, maxDepth}
 use Rattle.partition.specs.Projection.{leastZ}
 use Rattle.partition.specs.Grouping.{Group}
+use Rattle.partition.specs.GroupRows.{noGroup}
 use Rattle.mapping.specs.Mapping.{inOrder, Direction, greatestZ, dealBit, dealt, joined}
 
 -- ---- the table
@@ -38,10 +39,6 @@ pub record Keyed (keys : List ℤ) (n : ℕ) : Type 0 where
   pub room : n * rowLength ≤ length keys
   pub sized : (k j : ℕ) → k < n → j < maxDepth → natAbs (keyAt keys j k) ≤ maxKey
 
--- a group, for a place where there is none
-unfoldable pub noGroup : Group
-noGroup = record { class = 0; along = [] }
-
 -- the table holds these groups, in their order
 pub record Laid (gs : List Group) (keys : List ℤ) : Type 0 where
   pub keyed : Keyed keys (length gs)
@@ -49,12 +46,9 @@ pub record Laid (gs : List Group) (keys : List ℤ) : Type 0 where
 
 -- ---- the directions and the processors of n rows
 
--- the lesser and the larger of two numbers
+-- the lesser of two numbers
 unfoldable pub lesserZ : ℤ → ℤ → ℤ
 lesserZ a b = elim (ltZ b a) [ true ↦ b | false ↦ a ]
-
-unfoldable pub largerZ : ℤ → ℤ → ℤ
-largerZ a b = elim (ltZ a b) [ true ↦ b | false ↦ a ]
 
 -- number j of each of n rows
 unfoldable pub column : List ℤ → ℕ → ℕ → List ℤ

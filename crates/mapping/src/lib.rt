@@ -13,8 +13,9 @@ ghost use Rattle.nest.specs.Nest.{toℕ, countOf, maxDepth, maxCube, maxIterati
 ghost use Rattle.nest.specs.Points.{pointsOf};
 ghost use Rattle.nest.specs.Refusals.{refusal};
 ghost use Rattle.partition.specs.Projection.{leastZ};
+ghost use Rattle.partition.specs.Periods.{maxZ};
 ghost use Rattle.mapping.specs.Mapping.{greatestZ, nextTurn, dealt, gray, partOf, joined, isMessage, total};
-ghost use Rattle.mapping.specs.Keys.{rowLength, maxKey, valuesIn, Keyed, lesserZ, largerZ, column, spanOf, directionsIn, processorsIn, held, Fits, bitsIn, Dealt, oneIf};
+ghost use Rattle.mapping.specs.Keys.{rowLength, maxKey, valuesIn, Keyed, lesserZ, column, spanOf, directionsIn, processorsIn, held, Fits, bitsIn, Dealt, oneIf};
 
 // Numbers a row of the table of keys: class, q, b, and one that is not read here.
 const ROW: usize = 4;
@@ -62,7 +63,7 @@ fn lesser(a: i64, b: i64) -> i64
 
 // The larger of two numbers.
 fn larger(a: i64, b: i64) -> i64
-    ensures { λ r. ⌜ r ≡ largerZ a b ⌝ }
+    ensures { λ r. ⌜ r ≡ maxZ a b ⌝ }
 {
     if a < b { b } else { a }
 }

@@ -1,12 +1,12 @@
 ghost use mathlib.Core.Path.{_≡_};
-ghost use Prim.Native.Nat.{ℕ, _+_, _*_, _<_, _≤_, _%_};
+ghost use Prim.Native.Nat.{_+_, _*_, _<_, _≤_, _%_};
 ghost use mathlib.Core.Bool.{_&&_};
 ghost use lib.Dec.{ltb};
 ghost use mathlib.Core.Bool.{true};
 ghost use mathlib.Core.List.{[], _++_};
 ghost use lib.IntN.{pos, negsuc, natAbs};
 ghost use lib.Signed.{ltZ};
-ghost use lib.ListN.{length, take, drop, getD, replicate};
+ghost use lib.ListN.{length, take, drop, replicate};
 ghost use Rattle.nest_text.specs.Fields.{within, digitsTo, fieldOf, noLeadingZero, blanksOf, digitsOf, readOf, signedOf};
 
 // What a six-column field says.

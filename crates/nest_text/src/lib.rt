@@ -1,8 +1,9 @@
 // The text of a loop nest: read from bytes, and written into a lent buffer (document 01, "The sheet").
 mod fields;
 mod reader;
-pub mod writer;
+mod writer;
 
+pub use crate::writer::put_line;
 use nest::LoopNest;
 use nest::SHORT_BUFFER;
 ghost use mathlib.Core.Path.{_≡_};

@@ -17,10 +17,10 @@ use Rattle.partition.specs.Grouping.{Group, chosenCount}
 use Rattle.partition.specs.Partition.{groupsOf, stepCount, blockCount}
 use Rattle.partition.specs.Basis.{pick, Fill}
 use Rattle.partition.specs.Tables.{row}
-use Rattle.partition.specs.GroupRows.{GroupRow, GroupTable}
+use Rattle.partition.specs.GroupRows.{noGroup, GroupRow, GroupTable}
 use Rattle.partition.proofs.Theorems.{chosen-bound}
 use Rattle.mapping.specs.Mapping.{inOrder, processorsOf, processorCount, isMessage, total, messageCount}
-use Rattle.mapping.specs.Keys.{Laid, Keyed, valuesIn, keyAt, noGroup}
+use Rattle.mapping.specs.Keys.{Laid, Keyed, valuesIn, keyAt}
 use Rattle.mapping.proofs.Theorems.{groups-length, processors-length, table-below, table-processors, table-messages}
 use Rattle.sequential.specs.Sequential.{sequential, loop, ruleOf, valuesOf, filled}
 use Rattle.sequential.proofs.FillLaws.{filledTo, filled-table}
@@ -66,7 +66,6 @@ module _ (s : LoopNest) (ok : refusal s ≡ 0) (keys₀ keys : List ℤ) (T : Gr
 
   -- the table holds the groups
   pub laid : Laid (groupsOf s) keys
-  unfolding noGroup
   laid = record {
     keyed = keyed (length (groupsOf s)) (groups-length s);
     laid = λ k l j b. ap (λ (v : Vector). getD v j (pos 0)) (values-are keys k (chosenCount (timeOf s) (dependencesOf s)) (getD (groupsOf s) k noGroup) few (T .rows-are k (omega (arith, l, groups-length s))));

@@ -18,13 +18,9 @@ use Rattle.mapping.proofs.Theorems.{processors-length}
 use Rattle.sequential.specs.Sequential.{sequential, ruleOf, valuesOf}
 use Rattle.sequential.proofs.LoopLaws.{loop-length}
 use Rattle.planner.specs.declared.Planning.{Planning}
-use Rattle.planner.specs.Plan.{planRefusal, planAnswer, tableAfter}
+use Rattle.planner.specs.Plan.{noRoom, planRefusal, refusedWith, planAnswer, tableAfter}
 
 -- ---- room for n entries
-
--- 14 if one of four tables is too short
-abbrev pub noRoom : ℕ → ℕ → ℕ → ℕ → ℕ → ℕ
-noRoom n a b c d = orElse (shortBuffer n a) (orElse (shortBuffer n b) (orElse (shortBuffer n c) (shortBuffer n d)))
 
 -- a short table is the answer
 pub short-here : (n a k : ℕ) → a < n → orElse (shortBuffer n a) k ≡ 14
@@ -70,10 +66,6 @@ unfolding valuesOf sequential
 values-length s = loop-length (ruleOf s) s (length (pointsOf s))
 
 -- ---- the ways out
--- every count is 0
-abbrev pub refusedWith : ℕ → Planning
-refusedWith k = record { refusal = k; iterations = 0; steps = 0; blocks = 0; processors = 0; messages = 0 }
-
 -- what a refused call answers
 refused-answer : (s : LoopNest) (k : ℕ) → (k ≡ 0 → ⊥) → planAnswer s k ≡ refusedWith k
 unfolding planAnswer

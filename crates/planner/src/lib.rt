@@ -8,11 +8,11 @@ ghost use mathlib.Core.List.{_++_};
 ghost use Prim.Native.Nat.{_≤_};
 ghost use lib.ListN.{length, drop};
 ghost use Rattle.nest.specs.Points.{pointsOf};
-ghost use Rattle.nest.specs.Refusals.{refusal, orElse, shortBuffer};
+ghost use Rattle.nest.specs.Refusals.{refusal};
 ghost use Rattle.partition.specs.Partition.{stepsOf, blocksOf, blockCount};
 ghost use Rattle.mapping.specs.Mapping.{processorsOf};
 ghost use Rattle.sequential.specs.Sequential.{valuesOf};
-ghost use Rattle.planner.specs.Plan.{planRefusal, planAnswer, tableAfter};
+ghost use Rattle.planner.specs.Plan.{noRoom, planRefusal, refusedWith, planAnswer, tableAfter};
 
 // What `plan` answers: the number of the first refusal with every count 0, or 0 with the counts.
 pub struct Planning {
@@ -27,7 +27,7 @@ pub struct Planning {
 
 // The answer to a refused call.
 fn refused(refusal: u8) -> Planning
-    ensures { λ r. ⌜ r ≡ record { refusal = refusal; iterations = 0; steps = 0; blocks = 0; processors = 0; messages = 0 } ⌝ }
+    ensures { λ r. ⌜ r ≡ refusedWith refusal ⌝ }
 {
     Planning {
         refusal: refusal,
@@ -41,7 +41,7 @@ fn refused(refusal: u8) -> Planning
 
 // 14 if one of four tables has fewer entries than there are iterations, 0 otherwise.
 fn check_room(n: usize, steps: usize, blocks: usize, processors: usize, values: usize) -> u8
-    ensures { λ r. ⌜ r ≡ orElse (shortBuffer n steps) (orElse (shortBuffer n blocks) (orElse (shortBuffer n processors) (shortBuffer n values))) ⌝ }
+    ensures { λ r. ⌜ r ≡ noRoom n steps blocks processors values ⌝ }
 {
     if steps < n {
         return SHORT_BUFFER;

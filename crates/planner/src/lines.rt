@@ -21,7 +21,7 @@ pub fn put_counts(out: &mut [u8], at: usize, counts: [usize; 5]) -> usize
         counts[3] as i64,
         counts[4] as i64,
     ];
-    nest_text::writer::put_line(out, at, &numbers, 0, 5)
+    nest_text::put_line(out, at, &numbers, 0, 5)
 }
 
 // Writes a line of one number.
@@ -30,7 +30,7 @@ pub fn put_number(out: &mut [u8], at: usize, x: u8) -> usize
     ensures { λ r. ⌜ Stored (now (out .entry)) at (line (pos x ∷ [])) (now (out .exit)) r ⌝ }
 {
     let numbers = [x as i64];
-    nest_text::writer::put_line(out, at, &numbers, 0, 1)
+    nest_text::put_line(out, at, &numbers, 0, 1)
 }
 
 // Writes the line of an iteration.

@@ -9,8 +9,9 @@ use mir.Syntax.{w64}
 use mir.Val.{toZ}
 use Rattle.integers.specs.Bounds.{told}
 use Rattle.integers.specs.Lists.{tab}
+use Rattle.partition.specs.Periods.{maxZ}
 use Rattle.mapping.specs.Mapping.{greatestZ}
-use Rattle.mapping.specs.Keys.{keyAt, column, largerZ}
+use Rattle.mapping.specs.Keys.{keyAt, column}
 use Rattle.mapping.proofs.Extremes.{greatest-tab-one, greatest-tab-more}
 use Rattle.mapping.proofs.greatest_in.Statement.{statement}
 use Rattle.mapping.proofs.greatest_in.Tie as tie
@@ -59,7 +60,7 @@ loop-again c =
     let l = c .before .before .before .loop in
     let a = c .before .before .before .before .before .args in
     let el = keyAt (a .keys .now) (a .j) (l .k) in
-    (omega (arith, l .inv .0), omega (arith, c .before .before .loop-test .taken), told (c .larger .result) (c .larger .ok) ∙ c .larger .ensures ∙ ap₂ largerZ (l .inv .2) (told el (c .before .larger-arg .given)) ∙ sym (greatest-tab-more (keyAt (a .keys .now) (a .j)) (l .k) (l .inv .0)))
+    (omega (arith, l .inv .0), omega (arith, c .before .before .loop-test .taken), told (c .larger .result) (c .larger .ok) ∙ c .larger .ensures ∙ ap₂ maxZ (l .inv .2) (told el (c .before .larger-arg .given)) ∙ sym (greatest-tab-more (keyAt (a .keys .now) (a .j)) (l .k) (l .inv .0)))
 
 returns : tie.Need-returns Inv-loop μ-loop
 unfolding column
