@@ -1,0 +1,178 @@
+//! Times the proved planner beside a plain one, in one run, on nests on which both give the same tables.
+
+mod nest;
+mod plain;
+mod proved;
+
+use std::hint::black_box;
+use std::time::Instant;
+
+use nest::{LoopNest, Tables};
+use plain::Lookup;
+
+/// L1 of document 000, of so many iterations a side.
+fn l1(side: i64) -> LoopNest {
+    LoopNest::new(&[side, side], &[1, 1], &[&[0, 1], &[1, 1], &[1, 0]], 6)
+}
+
+/// L2 of document 000.
+fn l2(extents: &[i64; 3]) -> LoopNest {
+    LoopNest::new(extents, &[1, 1, 1], &[&[0, 1, 0], &[1, 0, 0], &[0, 0, 1]], 6)
+}
+
+/// A nest whose chosen projections span a coarse lattice, so that few iterations share a class: at 16 x 16 x 16 it has 4035 classes.
+fn many_classes(extents: &[i64; 3]) -> LoopNest {
+    LoopNest::new(extents, &[16, 15, 13], &[&[16, -15, 0], &[13, 0, -15]], 6)
+}
+
+/// Pseudo-random numbers.
+struct Random(u64);
+
+impl Random {
+    fn between(&mut self, low: i64, high: i64) -> i64 {
+        self.0 ^= self.0 << 13;
+        self.0 ^= self.0 >> 7;
+        self.0 ^= self.0 << 17;
+        low + (self.0 % (high - low + 1) as u64) as i64
+    }
+}
+
+/// A nest that is often accepted.
+fn random_nest(random: &mut Random) -> LoopNest {
+    let depth = random.between(1, 3) as usize;
+    let longest = [0, 500, 40, 12][depth];
+    let extents: Vec<i64> = (0..depth).map(|_| random.between(1, longest)).collect();
+    let span = [1, 2, 4, 16][random.between(0, 3) as usize];
+    let time: Vec<i64> = (0..depth).map(|_| random.between(-span, span)).collect();
+    let mut dependences: Vec<Vec<i64>> = Vec::new();
+    for _ in 0..random.between(1, 8) {
+        let d: Vec<i64> = (0..depth).map(|_| random.between(-span, span)).collect();
+        let ahead = d.iter().zip(&time).map(|(a, b)| a * b).sum::<i64>() > 0;
+        if ahead && d.iter().find(|x| **x != 0) > Some(&0) && !dependences.contains(&d) {
+            dependences.push(d);
+        }
+    }
+    let lists: Vec<&[i64]> = dependences.iter().map(|d| d.as_slice()).collect();
+    let mut nest = LoopNest::new(&extents, &time, &lists, random.between(0, 6));
+    for k in 0..depth {
+        let by = random.between(-100, 100);
+        nest.lower[k] += by;
+        nest.upper[k] += by;
+    }
+    nest
+}
+
+/// Both planners on one nest, with tables of so many entries: whether all answers are equal, and whether it is accepted.
+fn agree(nest: &LoopNest, entries: [usize; 4]) -> (bool, bool) {
+    let mut ours = Tables::new(entries);
+    let answer = proved::plan(nest, &mut ours);
+    let mut same = true;
+    for lookup in [Lookup::Search, Lookup::Hash] {
+        let mut theirs = Tables::new(entries);
+        same &= plain::plan(nest, &mut theirs, lookup) == answer && theirs == ours;
+    }
+    let mut ours = vec![77; entries[3]];
+    let mut theirs = ours.clone();
+    same &= proved::fill(nest, &mut ours) == plain::fill(nest, &mut theirs) && ours == theirs;
+    (same, answer == 0)
+}
+
+/// Compares the planners on nests of every shape; answers how many there were and how many of them were accepted.
+fn compare(nests: usize) -> (usize, usize) {
+    let mut random = Random(0x9E37_79B9_7F4A_7C15);
+    let mut accepted = 0;
+    for _ in 0..nests {
+        let nest = random_nest(&mut random);
+        let mut entries = [4100; 4];
+        if random.between(0, 3) == 0 {
+            entries[random.between(0, 3) as usize] = random.between(0, 200) as usize;
+        }
+        let (same, good) = agree(&nest, entries);
+        assert!(same, "the planners differ on {nest:?}");
+        accepted += good as usize;
+    }
+    (nests, accepted)
+}
+
+/// The least time of each of some functions, in nanoseconds, called in turn for so many rounds.
+fn least_times(rounds: usize, functions: &mut [&mut dyn FnMut()]) -> Vec<f64> {
+    let mut least = vec![f64::INFINITY; functions.len()];
+    for _ in 0..rounds {
+        for (function, least) in functions.iter_mut().zip(&mut least) {
+            let start = Instant::now();
+            function();
+            *least = least.min(start.elapsed().as_nanos() as f64);
+        }
+    }
+    least
+}
+
+/// An answer that the compiler may not throw away.
+fn keep(answer: u8) {
+    black_box(answer);
+}
+
+/// Times on one nest: proved plan, plain plan by search, plain plan by hash, proved fill, plain fill.
+fn times(nest: &LoopNest, rounds: usize) -> (usize, Vec<f64>) {
+    assert_eq!(agree(nest, [4100; 4]), (true, true), "the planners differ on {nest:?}");
+    let mut tables: Vec<Tables> = (0..5).map(|_| Tables::new([4096; 4])).collect();
+    let [a, b, c, d, e] = &mut tables[..] else { unreachable!() };
+    let least = least_times(
+        rounds,
+        &mut [
+            &mut || keep(proved::plan(black_box(nest), a)),
+            &mut || keep(plain::plan(black_box(nest), b, Lookup::Search)),
+            &mut || keep(plain::plan(black_box(nest), c, Lookup::Hash)),
+            &mut || keep(proved::fill(black_box(nest), &mut d.values)),
+            &mut || keep(plain::fill(black_box(nest), &mut e.values)),
+        ],
+    );
+    (tables[0].counts[0], least)
+}
+
+fn main() {
+    let quick = std::env::args().nth(1).as_deref() == Some("quick");
+    let scale = if quick { 1 } else { 10 };
+    let (nests, accepted) = compare(1000);
+    println!("equal tables and counts on {nests} nests, {accepted} of them accepted\n");
+
+    println!("least times in microseconds; 'search' and 'hash' say how the plain planner finds classes\n");
+    println!(
+        "{:<26} {:>9} {:>9} {:>9} {:>7} {:>7} {:>9} {:>9} {:>7}",
+        "nest", "plan", "search", "hash", "ratio", "ratio", "fill", "plain", "ratio"
+    );
+    let lines = [
+        ("L1, 64 x 64", l1(64), 20 * scale),
+        ("L2, 16 x 16 x 16", l2(&[16, 16, 16]), 20 * scale),
+        ("4035 classes, 16 x 16 x 16", many_classes(&[16, 16, 16]), 2 * scale),
+    ];
+    for (name, nest, rounds) in &lines {
+        let (_, t) = times(nest, *rounds);
+        println!(
+            "{name:<26} {:>9.1} {:>9.1} {:>9.1} {:>7.2} {:>7.2} {:>9.1} {:>9.1} {:>7.2}",
+            t[0] / 1e3,
+            t[1] / 1e3,
+            t[2] / 1e3,
+            t[0] / t[1],
+            t[0] / t[2],
+            t[3] / 1e3,
+            t[4] / 1e3,
+            t[3] / t[4]
+        );
+    }
+
+    println!("\nnanoseconds an iteration\n");
+    println!("{:<26} {:>10} {:>9} {:>9} {:>9} {:>9} {:>9}", "nest", "iterations", "plan", "search", "hash", "fill", "plain");
+    let sizes = [
+        ("L1", [l1(16), l1(32), l1(64)]),
+        ("L2", [l2(&[4, 8, 8]), l2(&[8, 8, 16]), l2(&[16, 16, 16])]),
+        ("many classes", [many_classes(&[4, 8, 8]), many_classes(&[8, 8, 16]), many_classes(&[16, 16, 16])]),
+    ];
+    for (name, nests) in &sizes {
+        for nest in nests {
+            let (n, t) = times(nest, if *name == "many classes" { 2 } else { 20 } * scale);
+            let each: Vec<f64> = t.iter().map(|x| x / n as f64).collect();
+            println!("{name:<26} {n:>10} {:>9.1} {:>9.1} {:>9.1} {:>9.1} {:>9.1}", each[0], each[1], each[2], each[3], each[4]);
+        }
+    }
+}
