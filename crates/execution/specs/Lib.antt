@@ -1,0 +1,6 @@
+-- The run of a loop nest: rules, reference machine, run on tables, the claim about any list of moves.
+pub mod Rules
+pub mod Machine
+pub mod Run
+pub mod Words
+pub mod Claim
