@@ -1,0 +1,4 @@
+-- The laws of the run, and the proof of the claim.
+pub mod Base
+pub mod RuleLaws
+pub mod MachineLaws
