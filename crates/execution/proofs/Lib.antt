@@ -2,3 +2,5 @@
 pub mod Base
 pub mod RuleLaws
 pub mod MachineLaws
+pub mod TableLaws
+pub mod Demand

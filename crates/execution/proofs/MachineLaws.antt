@@ -18,7 +18,7 @@ use Rattle.nest.specs.Points.{pointsOf}
 use Rattle.nest.specs.Sources.{sourceRank}
 use Rattle.mapping.specs.Mapping.{isMessage, total}
 use Rattle.mapping.specs.Keys.{oneIf}
-use Rattle.execution.specs.Rules.{every, least, Move, compute, deliver, Effect, refuse, iteration, message, answer, Layout, View, stepIn, processorIn, waits, there, sourceDone, effect}
+use Rattle.execution.specs.Rules.{every, least, Move, compute, deliver, Effect, refuse, iteration, message, answer, Layout, View, stepIn, processorIn, waits, there, sourceDone, taking, effect}
 use Rattle.execution.specs.Machine.{Machine, freshMachine, withIteration, withMessage, machineAfter, machineView, machineAnswer, machineNext, machineRun, machineAnswers, countBelow, computedCount, deliveredCount, allowedCount}
 use Rattle.execution.proofs.Base.{eq?, opt, both, and-left, and-right, or-cases, and-eqb, sum-same, sum-more, sum-zero, count-same, count-more, count-all, count-zero, every-true, every-false, Least, least-none, least-some}
 use Rattle.execution.proofs.RuleLaws.{there-own, there-other, message-none, message-some, taking-ready, delivering-ready, ready, taken, compute-there, deliver-there, by-move}
@@ -30,12 +30,6 @@ pub record Causal (s : LoopNest) (L : Layout) : Type 0 where
   pub housed : (k : ℕ) → k < length (pointsOf s) → getD (L .processors) k 0 < 2 ^ toℕ (s .cube)
 
 module _ (s : LoopNest) (L : Layout) where
-  abbrev N : ℕ
-  N = length (pointsOf s)
-
-  abbrev isSent : ℕ → ℕ → Bool
-  isSent k i = isMessage s (L .processors) k i
-
   -- the sets hold iterations and messages only, the source of a delivered message is computed, and all messages to a computed iteration are delivered
   pub record Sound (b : Machine) : Type 0 where
     pub iterations : (k : ℕ) → b .computed k ≡ true → k < length (pointsOf s)
@@ -198,7 +192,7 @@ module _ (s : LoopNest) (L : Layout) where
 
     pub can-compute : (p k : ℕ) → p < 2 ^ toℕ (s .cube) → taken s w p ≡ some k → every (λ i. there w p k i (sourceRank s k i)) (countOf s) ≡ true
         → machineAnswer s L b (compute p) ≡ 0
-    can-compute p k h q t = ap answer (compute-there s w p h ∙ ap (Rattle.execution.specs.Rules.taking s w p) q ∙ taking-ready s w p k t)
+    can-compute p k h q t = ap answer (compute-there s w p h ∙ ap (taking s w p) q ∙ taking-ready s w p k t)
 
     -- a message that is not delivered, from a source that is computed, can be
     pub can-deliver : (k i j : ℕ) → k < length (pointsOf s) → i < countOf s → sourceRank s k i ≡ some j → isMessage s (L .processors) k i ≡ true

@@ -58,7 +58,7 @@ module _ (s : LoopNest) (L : Layout) where
 -- ---- the reference machine of a nest
 
 -- the nest's own steps and processors
-unfoldable pub layoutOf : LoopNest → Layout
+abbrev pub layoutOf : LoopNest → Layout
 layoutOf s = record { steps = stepsOf s; processors = processorsOf s }
 
 -- what it holds after a list of moves, and what it answered
