@@ -4,3 +4,4 @@ pub mod RuleLaws
 pub mod MachineLaws
 pub mod TableLaws
 pub mod Demand
+pub mod WordLaws
