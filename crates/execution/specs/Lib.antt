@@ -4,3 +4,4 @@ pub mod Machine
 pub mod Run
 pub mod Words
 pub mod Claim
+pub mod Example
