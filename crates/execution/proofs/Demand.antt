@@ -3,18 +3,17 @@
 use mathlib.Core.Path.{_≡_, refl, sym, ap, ap₂, subst, _∙_}
 use mathlib.Core.Bool.{true, false}
 use mathlib.Core.List.{List, [], _∷_, _++_}
-use mathlib.Core.Logic.{_≢_}
+use mathlib.Core.Logic.{_≢_, _↔_}
 use mathlib.Core.Option.{some}
-use Prim.Native.Nat.{ℕ, _+_, _≤_, _<_}
-use native.Mathlib.Nat.{le-trans}
+use Prim.Native.Nat.{ℕ, _+_, _*_, _≤_, _<_}
 use native.Mathlib.Omega.{arith}
-use borrow.Author.Tests.{eq-eqb}
+use borrow.Author.Tests.{eq-eqb, ne-eqb}
 use lib.ListN.{length, getD, drop, length-append, List·getD-append}
 use Rattle.nest.specs.declared.LoopNest.{LoopNest}
 use Rattle.nest.specs.Nest.{countOf}
 use Rattle.nest.specs.Points.{pointsOf}
 use Rattle.nest.specs.Refusals.{refusal}
-use Rattle.nest.specs.Sources.{sourceRank}
+use Rattle.nest.proofs.Entries.{orElse-zero}
 use Rattle.partition.specs.Partition.{stepsOf, blocksOf}
 use Rattle.partition.proofs.Theorems.{later-step, steps-length}
 use Rattle.mapping.specs.Mapping.{processorsOf, isMessage, messageCount}
@@ -22,13 +21,14 @@ use Rattle.mapping.proofs.Theorems.{processors-length, processors-below}
 use Rattle.sequential.specs.Sequential.{Rule, sequential, ruleOf, valuesOf}
 use Rattle.sequential.proofs.LoopLaws.{is-source}
 use Rattle.planner.specs.declared.Planning.{Planning}
-use Rattle.planner.specs.Plan.{planRefusal, planAnswer, tableAfter}
+use Rattle.planner.specs.Plan.{noRoom, planRefusal, planAnswer, tableAfter}
 use Rattle.execution.specs.Rules.{Move, Effect, refuse, iteration, message, answer, Layout, effect}
 use Rattle.execution.specs.Machine.{Machine, freshMachine, machineAfter, machineView, machineAnswer, machineNext, layoutOf, referenceRun, referenceAnswers, computedCount, deliveredCount, allowedCount}
 use Rattle.execution.specs.Run.{State, moveEffect, moveAnswer, after, moveAfter, run, answers}
-use Rattle.execution.specs.Claim.{Planned, Fresh, Holds, Change, one-iteration, one-message, nothing, NoneMissing, NoneAllowed, Complete, Outcome}
-use Rattle.execution.proofs.MachineLaws.{Causal, Sound, Valid, size, fresh-sound, fresh-size, effect-valid, run-sound, run-size, progress, stuck, all-delivered, full-size, none-left}
-use Rattle.execution.proofs.TableLaws.{SameLayout, Kept, begins-with, fresh-kept, kept-holds, same-effect, written, run-kept, run-answers, machine-snoc, run-snoc}
+use Rattle.execution.specs.Claim.{Planned, Fresh, Holds, Change, one-iteration, one-message, nothing, NoneMissing, NoneAllowed, Complete, Outcome, Calls, no-call, call}
+use Rattle.execution.proofs.Base.{eq?}
+use Rattle.execution.proofs.MachineLaws.{Causal, Sound, Valid, size, fresh-sound, fresh-size, effect-valid, run-sound, run-size, progress, stuck, all-delivered, full-size, none-left, finish}
+use Rattle.execution.proofs.TableLaws.{SameLayout, Kept, begins-with, fresh-kept, kept-holds, kept-accepted, same-effect, written, run-kept, run-answers, machine-append, machine-snoc, run-snoc}
 
 -- ---- the nest's own layout
 
@@ -70,9 +70,6 @@ plan-planned s r steps processors steps′ processors′ e p q = record {
 -- ---- demand 3
 
 module _ {Val : Type 0} (R : Rule Val) (s : LoopNest) (L : Layout) (st₀ : State Val) (ok : refusal s ≡ 0) (pl : Planned s L) (fr : Fresh s st₀) where
-  abbrev M : Layout
-  M = layoutOf s
-
   abbrev C : Causal s (layoutOf s)
   C = causal s ok
 
@@ -139,6 +136,7 @@ module _ {Val : Type 0} (R : Rule Val) (s : LoopNest) (L : Layout) (st₀ : Stat
     same-answers = same-numbers ms;
     holds = kept-holds R s ok L (layoutOf s) C same st₀ fr (referenceRun s ms) (run R s L st₀ ms) (sound ms) (kept ms);
     each-move = λ front back mv e. change front mv;
+    no-refusal = λ front back e. kept-accepted R s ok L (layoutOf s) C same st₀ fr (referenceRun s front) (run R s L st₀ front) (kept front);
     allowed = count-allowed ms;
     progress = λ k l e. let p = progress s (layoutOf s) (referenceRun s ms) C k l e in (p .0, p .1, next-answer ms (p .0) ∙ p .1);
     none-allowed = ended ms;
@@ -146,3 +144,64 @@ module _ {Val : Type 0} (R : Rule Val) (s : LoopNest) (L : Layout) (st₀ : Stat
     complete-unless-allowed = λ none. complete ms (ended ms none);
     complete-unless-missing = complete ms;
   }
+
+-- ---- from what `plan` promises
+
+-- the number in its answer
+plan-number : (s : LoopNest) (k : ℕ) → planAnswer s k .refusal ≡ k
+unfolding planAnswer
+plan-number s k = eq? k 0 (λ q. rw (eq-eqb k 0 q, planAnswer) (sym q)) (λ q. rw (ne-eqb k 0 q, planAnswer) refl)
+
+-- a plan that was not refused is of an accepted nest
+pub plan-accepted : (s : LoopNest) (r : Planning) (a b c d : ℕ) → r ≡ planAnswer s (planRefusal s a b c d) → r .refusal ≡ 0 → refusal s ≡ 0
+unfolding planRefusal
+plan-accepted s r a b c d e z =
+    let k = planRefusal s a b c d in
+    let n : k ≡ 0 = sym (plan-number s k) ∙ ap (λ (x : Planning). x .refusal) (sym e) ∙ z in
+    orElse-zero (refusal s) (noRoom (length (pointsOf s)) a b c d) n .0
+
+-- Demand 3 on the tables that a call of `plan` left
+pub plan-outcome : {Val : Type 0} (R : Rule Val) (s : LoopNest) (r : Planning) (steps blocks processors values steps′ processors′ : List ℕ)
+    → r ≡ planAnswer s (planRefusal s (length steps) (length blocks) (length processors) (length values)) → r .refusal ≡ 0
+    → steps′ ≡ tableAfter (r .refusal) (stepsOf s) steps → processors′ ≡ tableAfter (r .refusal) (processorsOf s) processors
+    → (st₀ : State Val) → Fresh s st₀ → (ms : List Move) → Outcome R s (record { steps = steps′; processors = processors′ }) st₀ ms
+plan-outcome R s r steps blocks processors values steps′ processors′ e z p q st₀ fr ms =
+    run-outcome R s (record { steps = steps′; processors = processors′ }) st₀ (plan-accepted s r (length steps) (length blocks) (length processors) (length values) e z)
+    (plan-planned s r steps processors steps′ processors′ z p q) fr ms
+
+-- ---- the weighted sum
+
+-- under the nest's own rule a complete run's table is the table of values that the planner writes
+pub weighted-table : (s : LoopNest) (st₀ : State ℕ) (b : Machine) (st : State ℕ) (numbers : List ℕ) → Complete (ruleOf s) s st₀ b st numbers
+    → st .values ≡ valuesOf s ++ drop (length (pointsOf s)) (st₀ .values)
+unfolding valuesOf
+weighted-table s st₀ b st numbers c = c .table
+
+-- ---- calls
+
+-- a list of calls answers and leaves what the run does
+pub calls-run : {Val : Type 0} (R : Rule Val) (s : LoopNest) (L : Layout) (st : State Val) (ms : List Move) (numbers : List ℕ) (last : State Val) → Calls R s L st ms numbers last
+    → (numbers ≡ answers R s L st ms) × (last ≡ run R s L st ms)
+calls-run R s L st ms numbers last no-call = (refl, refl)
+calls-run R s L st ms numbers last (call {st′ = st′} {ms = rest} {numbers = others} a e c) =
+    let h = calls-run R s L st′ rest others last c in
+    (ap₂ _∷_ a (h .0 ∙ ap (λ u. answers R s L u rest) e), h .1 ∙ ap (λ u. run R s L u rest) e)
+
+-- ---- the messages that are ever delivered
+
+-- every list of moves can be continued until no iteration is missing
+pub can-complete : (s : LoopNest) → refusal s ≡ 0 → (ms : List Move) → (more : List Move) × NoneMissing s (referenceRun s (ms ++ more))
+can-complete s ok ms =
+    let sd = run-sound s (layoutOf s) freshMachine ms (fresh-sound s (layoutOf s)) in
+    let r = finish s (layoutOf s) (causal s ok) (length (pointsOf s) + length (pointsOf s) * countOf s) (referenceRun s ms) sd (omega arith) in
+    (r .0, λ k l. ap (λ (b : Machine). b .computed k) (machine-append s (layoutOf s) freshMachine ms (r .0)) ∙ r .1 k l)
+
+-- the pairs that the reference machine can ever deliver are the messages; `messages-counted` says that `messageCount` is their number
+pub deliverable-iff : (s : LoopNest) → refusal s ≡ 0 → (k i : ℕ)
+    → ((ms : List Move) × (referenceRun s ms .delivered k i ≡ true)) ↔ ((k < length (pointsOf s)) × (i < countOf s) × (isMessage s (processorsOf s) k i ≡ true))
+deliverable-iff s ok k i = (
+  λ d. run-sound s (layoutOf s) freshMachine (d .0) (fresh-sound s (layoutOf s)) .messages k i (d .1),
+  λ m.
+      let r = can-complete s ok [] in
+      (r .0, all-delivered s (layoutOf s) (referenceRun s (r .0)) (run-sound s (layoutOf s) freshMachine (r .0) (fresh-sound s (layoutOf s))) (r .1) k i (m .0) (m .1) ∙ m .2),
+)

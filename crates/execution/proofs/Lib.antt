@@ -5,3 +5,4 @@ pub mod MachineLaws
 pub mod TableLaws
 pub mod Demand
 pub mod WordLaws
+pub mod Check

@@ -6,18 +6,19 @@ use mathlib.Core.Bool.{Bool, true, false, not, _&&_, _||_}
 use mathlib.Core.List.{List, [], _∷_, _++_}
 use mathlib.Core.Logic.{_≢_, _⊎_}
 use mathlib.Core.Option.{Option, none, some}
-use Prim.Native.Nat.{ℕ, zero, suc, _+_, _^_, _≤_, _<_}
+use Prim.Native.Nat.{ℕ, zero, suc, _+_, _*_, _^_, _≤_, _<_}
 use native.Mathlib.Omega.{arith}
-use borrow.Author.Tests.{ltb-true, eqb-true, eqb-false, eq-eqb, ne-eqb, not-true}
+use borrow.Author.Tests.{ltb-true, eqb-true, eqb-false, eq-eqb, ne-eqb, not-true, not-false}
 use lib.Dec.{eqb, ltb}
 use lib.ListN.{length, getD}
-use Rattle.integers.specs.Lists.{tab, count, split, clash, or-right, count-yes, count-no}
+use Rattle.integers.specs.Lists.{tab, count, split, clash, or-right, count-yes, count-no, length-tab}
 use Rattle.nest.specs.declared.LoopNest.{LoopNest}
 use Rattle.nest.specs.Nest.{toℕ, countOf}
 use Rattle.nest.specs.Points.{pointsOf}
 use Rattle.nest.specs.Sources.{sourceRank}
 use Rattle.mapping.specs.Mapping.{isMessage, total}
 use Rattle.mapping.specs.Keys.{oneIf}
+use Rattle.mapping.proofs.Messages.{count-most, total-most}
 use Rattle.execution.specs.Rules.{every, least, Move, compute, deliver, Effect, refuse, iteration, message, answer, Layout, View, stepIn, processorIn, waits, there, sourceDone, taking, effect}
 use Rattle.execution.specs.Machine.{Machine, freshMachine, withIteration, withMessage, machineAfter, machineView, machineAnswer, machineNext, machineRun, machineAnswers, countBelow, computedCount, deliveredCount, allowedCount}
 use Rattle.execution.proofs.Base.{eq?, opt, both, and-left, and-right, or-cases, and-eqb, sum-same, sum-more, sum-zero, count-same, count-more, count-all, count-zero, every-true, every-false, Least, least-none, least-some}
@@ -260,6 +261,18 @@ module _ (s : LoopNest) (L : Layout) where
       pub stuck : ((mv : Move) → machineAnswer s L b mv ≢ 0) → (k : ℕ) → k < length (pointsOf s) → b .computed k ≡ true
       stuck h k hk = split (b .computed k) (λ e. e) (λ e. let p = progress k hk e in absurd (h (p .0) (p .1)))
 
+    -- no more can be done than there is
+    size-most : size b ≤ length (pointsOf s) + length (pointsOf s) * countOf s
+    size-most =
+        omega (
+          arith,
+          below-most (b .computed) (length (pointsOf s)),
+          total-most (λ k. countBelow (b .delivered k) (countOf s)) (countOf s) (length (pointsOf s)) (λ k. below-most (b .delivered k) (countOf s)),
+        )
+      where
+        below-most : (t : ℕ → Bool) (n : ℕ) → countBelow t n ≤ n
+        below-most t n = omega (arith, count-most t (tab (λ k. k) n), length-tab (λ k. k) n)
+
     -- ---- the end
 
     -- where no iteration is missing, every message is delivered
@@ -285,3 +298,29 @@ module _ (s : LoopNest) (L : Layout) where
         none-of (refuse a) h e = h e
         none-of (iteration k) h e = clash (all k (h .0)) (h .1)
         none-of (message k i) h e = clash (all-delivered sd all k i (h .0) (h .1) ∙ h .3) (h .2)
+
+  -- ---- every run can be brought to its end
+
+  module _ (C : Causal s L) where
+    -- an iteration is missing, so that some move is allowed; or none is
+    look : {A : Type 0} (b : Machine) → ((mv : Move) → machineAnswer s L b mv ≡ 0 → A) → (((k : ℕ) → k < length (pointsOf s) → b .computed k ≡ true) → A) → A
+    look b more ended = opt (least (λ k. not (b .computed k)) (λ k. 0) (length (pointsOf s)))
+        (λ e. ended (λ k l. not-false (b .computed k) (least-none (λ c. not (b .computed c)) (λ c. 0) (length (pointsOf s)) e k l)))
+        (λ k e.
+        let l = least-some (λ c. not (b .computed c)) (λ c. 0) (length (pointsOf s)) k e in
+        let p = progress b C k (l .below) (not-true (b .computed k) (l .passes)) in
+        more (p .0) (p .1))
+
+    -- an allowed move is one more
+    one-more : (b : Machine) → Sound b → (mv : Move) → machineAnswer s L b mv ≡ 0 → size (machineNext s L b mv) ≡ suc (size b)
+    one-more b sd mv e = let one : oneIf (eqb (machineAnswer s L b mv) 0) ≡ 1 = ap oneIf (eq-eqb (machineAnswer s L b mv) 0 e) ∙ (unfold oneIf in refl) in omega (arith, one, next-size b sd mv)
+
+    -- there are moves after which no iteration is missing
+    pub finish : (left : ℕ) (b : Machine) → Sound b → length (pointsOf s) + length (pointsOf s) * countOf s ≤ left + size b
+        → (more : List Move) × ((k : ℕ) → k < length (pointsOf s) → machineRun s L b more .computed k ≡ true)
+    finish zero b sd h = look b
+        (λ mv e. absurd (omega (arith, one-more b sd mv e, size-most (machineNext s L b mv))))
+        (λ all. ([], all))
+    finish (suc left) b sd h = look b
+        (λ mv e. let r = finish left (machineNext s L b mv) (next-sound b sd mv) (omega (arith, one-more b sd mv e)) in (mv ∷ r .0, r .1))
+        (λ all. ([], all))

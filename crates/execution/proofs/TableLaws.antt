@@ -173,14 +173,18 @@ module _ {Val : Type 0} (R : Rule Val) (s : LoopNest) (ok : refusal s ≡ 0) (L 
     delivered = λ k i l m. ap (bit i) (h .delivered k l) ∙ bit-byte (b .delivered k) (countOf s) i m;
   }
 
-  -- so a move comes to the same, and none of the refusals 2 to 14 comes up
-  pub same-effect : (b : Machine) (st : State Val) → Kept R s st₀ b st → (mv : Move) → moveEffect s L st mv ≡ effect s (machineView M b) mv
-  same-effect b st h mv =
-      move-rules s L st mv
-      (no-refusal s ok (length (L .steps)) (length (L .processors)) (length (st .values)) (length (st .done)) (length (st .delivered)) (same .steps-room) (same .processors-room)
+  -- none of the refusals 2 to 14 comes up
+  pub kept-accepted : (b : Machine) (st : State Val) → Kept R s st₀ b st → stateRefusal s L st ≡ 0
+  kept-accepted b st h =
+      no-refusal s ok (length (L .steps)) (length (L .processors)) (length (st .values)) (length (st .done)) (length (st .delivered)) (same .steps-room) (same .processors-room)
       (subst (λ z. length (pointsOf s) ≤ z) (sym (h .values-length)) (fr .values-room))
       (subst (λ z. length (pointsOf s) ≤ z) (sym (h .done-length)) (fr .done-room))
-      (subst (λ z. length (pointsOf s) ≤ z) (sym (h .delivered-length)) (fr .delivered-room)))
+      (subst (λ z. length (pointsOf s) ≤ z) (sym (h .delivered-length)) (fr .delivered-room))
+
+  -- so a move comes to the same
+  pub same-effect : (b : Machine) (st : State Val) → Kept R s st₀ b st → (mv : Move) → moveEffect s L st mv ≡ effect s (machineView M b) mv
+  same-effect b st h mv =
+      move-rules s L st mv (kept-accepted b st h)
       ∙ effect-same s (stateView L st) (machineView M b) (agree b st h) (λ k i j hk hi q. let l = C .earlier k i j hk hi q in omega arith) mv
 
   -- the value written is the loop's: each source that is an iteration is computed
@@ -260,11 +264,14 @@ module _ {Val : Type 0} (R : Rule Val) (s : LoopNest) (ok : refusal s ≡ 0) (L 
   run-answers b st (mv ∷ ms) sd h =
       ap₂ _∷_ (ap answer (same-effect b st h mv)) (run-answers (machineNext s M b mv) (moveAfter R s L st mv) ms (next-sound s M b sd mv) (next-kept b st sd h mv))
 
--- ---- one move more at the end of a list
+-- ---- more moves at the end of a list
+
+pub machine-append : (s : LoopNest) (L : Layout) (b : Machine) (ms more : List Move) → machineRun s L b (ms ++ more) ≡ machineRun s L (machineRun s L b ms) more
+machine-append s L b [] more = refl
+machine-append s L b (m ∷ ms) more = machine-append s L (machineNext s L b m) ms more
 
 pub machine-snoc : (s : LoopNest) (L : Layout) (b : Machine) (ms : List Move) (mv : Move) → machineRun s L b (ms ++ (mv ∷ [])) ≡ machineNext s L (machineRun s L b ms) mv
-machine-snoc s L b [] mv = refl
-machine-snoc s L b (m ∷ ms) mv = machine-snoc s L (machineNext s L b m) ms mv
+machine-snoc s L b ms mv = machine-append s L b ms (mv ∷ [])
 
 pub run-snoc : {Val : Type 0} (R : Rule Val) (s : LoopNest) (L : Layout) (st : State Val) (ms : List Move) (mv : Move)
     → run R s L st (ms ++ (mv ∷ [])) ≡ moveAfter R s L (run R s L st ms) mv

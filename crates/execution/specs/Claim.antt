@@ -15,7 +15,7 @@ use Rattle.mapping.specs.Mapping.{processorsOf, isMessage, messageCount}
 use Rattle.sequential.specs.Sequential.{Rule, sequential}
 use Rattle.execution.specs.Rules.{Move, Layout}
 use Rattle.execution.specs.Machine.{Machine, withIteration, withMessage, layoutOf, machineAnswer, referenceRun, referenceAnswers, computedCount, deliveredCount, allowedCount}
-use Rattle.execution.specs.Run.{State, bit, withValue, withBit, moveAnswer, run, answers}
+use Rattle.execution.specs.Run.{State, bit, withValue, withBit, stateRefusal, moveAnswer, moveAfter, run, answers}
 
 -- ---- hypotheses
 
@@ -91,6 +91,8 @@ pub record Outcome {Val : Type 0} (R : Rule Val) (s : LoopNest) (L : Layout) (st
   -- each move of the list computes one iteration or delivers one message and changes nothing else; a refused one changes nothing
   pub each-move : (front back : List Move) (mv : Move) → ms ≡ front ++ (mv ∷ back)
       → Change R s (referenceRun s front) (run R s L st₀ front) (moveAnswer s L (run R s L st₀ front) mv) (referenceRun s (front ++ (mv ∷ []))) (run R s L st₀ (front ++ (mv ∷ [])))
+  -- none of the refusals 2 to 14 comes up, at any move
+  pub no-refusal : (front back : List Move) → ms ≡ front ++ back → stateRefusal s L (run R s L st₀ front) ≡ 0
   -- allowed moves = computed iterations + delivered messages
   pub allowed : allowedCount (answers R s L st₀ ms) ≡ computedCount s (referenceRun s ms) + deliveredCount s (referenceRun s ms)
   -- while an iteration is missing some move is allowed
@@ -102,3 +104,13 @@ pub record Outcome {Val : Type 0} (R : Rule Val) (s : LoopNest) (L : Layout) (st
   -- when no move is allowed, and likewise when no iteration is missing, the run is complete
   pub complete-unless-allowed : NoneAllowed s L (run R s L st₀ ms) → Complete R s st₀ (referenceRun s ms) (run R s L st₀ ms) (answers R s L st₀ ms)
   pub complete-unless-missing : NoneMissing s (referenceRun s ms) → Complete R s st₀ (referenceRun s ms) (run R s L st₀ ms) (answers R s L st₀ ms)
+
+-- ---- calls
+
+-- A list of calls of the entry that makes a move, each with the same nest and tables and with the state as the call before left it: what the entry's contract says of each,
+-- by the state that it found, its move, the number that it answered and the state that it left. proofs/Demand.antt shows that the numbers and the last state are those of `answers`
+-- and `run`.
+pub data Calls {Val : Type 0} (R : Rule Val) (s : LoopNest) (L : Layout) : State Val → List Move → List ℕ → State Val → Type 0 where
+  no-call : {st : State Val} → Calls R s L st [] [] st
+  call : {st st′ last : State Val} {mv : Move} {ms : List Move} {a : ℕ} {numbers : List ℕ} → a ≡ moveAnswer s L st mv → st′ ≡ moveAfter R s L st mv
+      → Calls R s L st′ ms numbers last → Calls R s L st (mv ∷ ms) (a ∷ numbers) last
