@@ -35,10 +35,12 @@ opt (some a) f g = g a refl
 pub both : {a b : Bool} → a ≡ true → b ≡ true → (a && b) ≡ true
 both p q = rw (p, q) refl
 
+-- so the first does
 pub and-left : (a b : Bool) → (a && b) ≡ true → a ≡ true
 and-left true b e = refl
 and-left false b e = e
 
+-- and the second
 pub and-right : (a b : Bool) → (a && b) ≡ true → b ≡ true
 and-right true b e = e
 and-right false b e = clash e refl
@@ -54,9 +56,11 @@ and-eqb a b c d e = (eqb-true a b (and-left (eqb a b) (eqb c d) e), eqb-true c d
 
 -- ---- sums of f 0, f 1, ..
 
+-- one summand more
 pub sum-suc : (f : ℕ → ℕ) (n : ℕ) → total (tab f (suc n)) ≡ total (tab f n) + f n
 sum-suc f n = rw add-one at (total-tab-more f n)
 
+-- equal summands
 pub sum-same : (f g : ℕ → ℕ) (n : ℕ) → ((k : ℕ) → k < n → f k ≡ g k) → total (tab f n) ≡ total (tab g n)
 sum-same f g n h = ap total (tab-same f g n h)
 
@@ -74,14 +78,17 @@ sum-zero f (suc n) h = omega (arith, sum-suc f n, sum-zero f n (λ k l. h k (ome
 
 -- ---- how many of the numbers below n pass
 
-yes-one : (b : Bool) → b ≡ true → oneIf b ≡ 1
+-- a test that passes counts 1
+pub yes-one : (b : Bool) → b ≡ true → oneIf b ≡ 1
 unfolding oneIf
 yes-one b e = rw e refl
 
-no-zero : (b : Bool) → b ≡ false → oneIf b ≡ 0
+-- one that does not counts 0
+pub no-zero : (b : Bool) → b ≡ false → oneIf b ≡ 0
 unfolding oneIf
 no-zero b e = rw e refl
 
+-- one number more
 pub count-suc : (t : ℕ → Bool) (n : ℕ) → countBelow t (suc n) ≡ countBelow t n + oneIf (t n)
 count-suc t n = rw add-one at (count-tab-more t (λ k. k) n)
 
@@ -90,6 +97,7 @@ count-sum : (t : ℕ → Bool) (n : ℕ) → countBelow t n ≡ total (tab (λ k
 count-sum t zero = count-none t (λ k. k) ∙ sym (total-none (λ k. oneIf (t k)))
 count-sum t (suc n) = omega (arith, count-suc t n, sum-suc (λ k. oneIf (t k)) n, count-sum t n)
 
+-- equal tests
 pub count-same : (t u : ℕ → Bool) (n : ℕ) → ((k : ℕ) → k < n → t k ≡ u k) → countBelow t n ≡ countBelow u n
 count-same t u n h = count-sum t n ∙ sum-same (λ k. oneIf (t k)) (λ k. oneIf (u k)) n (λ k l. ap oneIf (h k l)) ∙ sym (count-sum u n)
 
@@ -111,6 +119,7 @@ count-zero t (suc n) h = omega (arith, count-suc t n, count-zero t n (λ k l. h 
 
 -- ---- tests of every number below a bound
 
+-- where every one passes, each does
 pub every-true : (t : ℕ → Bool) (n : ℕ) → every t n ≡ true → (i : ℕ) → i < n → t i ≡ true
 unfolding every
 every-true t zero e i l = absurd (not-suc-le-zero l)
@@ -118,6 +127,7 @@ every-true t (suc n) e i l = eq? i n
     (λ q. rw q (and-right (every t n) (t n) e))
     (λ q. every-true t n (and-left (every t n) (t n) e) i (omega arith))
 
+-- else some one does not
 pub every-false : (t : ℕ → Bool) (n : ℕ) → every t n ≡ false → (i : ℕ) × (i < n) × (t i ≡ false)
 unfolding every
 every-false t zero e = clash refl e
@@ -125,12 +135,15 @@ every-false t (suc n) e = split (every t n)
     (λ a. (n, omega arith, rw a at e))
     (λ a. let r = every-false t n a in (r .0, omega (arith, r .1), r .2))
 
+-- where each passes, every one does
 pub every-intro : (t : ℕ → Bool) (n : ℕ) → ((i : ℕ) → i < n → t i ≡ true) → every t n ≡ true
 every-intro t n h = split (every t n) (λ e. e) (λ e. let f = every-false t n e in clash (h (f .0) (f .1)) (f .2))
 
+-- where one does not, not every one does
 pub every-refute : (t : ℕ → Bool) (n i : ℕ) → i < n → t i ≡ false → every t n ≡ false
 every-refute t n i l h = split (every t n) (λ e. clash (every-true t n e i l) h) (λ e. e)
 
+-- equal tests
 pub every-same : (t u : ℕ → Bool) (n : ℕ) → ((i : ℕ) → i < n → t i ≡ u i) → every t n ≡ every u n
 unfolding every
 every-same t u zero h = refl
@@ -145,6 +158,7 @@ pub record Least (test : ℕ → Bool) (key : ℕ → ℕ) (n k : ℕ) : Type 0 
   pub lowest : (j : ℕ) → j < n → test j ≡ true → key k ≤ key j
   pub first : (j : ℕ) → j < n → test j ≡ true → key j ≤ key k → k ≤ j
 
+-- what the search answers
 abbrev Find : (ℕ → Bool) → (ℕ → ℕ) → ℕ → Option ℕ → Type 0
 Find test key n none = (j : ℕ) → j < n → test j ≡ false
 Find test key n (some k) = Least test key n k
@@ -188,17 +202,21 @@ find-step test key n true (some k) e f = split (ltb (key n) (key k))
       first = λ j l p r. eq? j n (λ q. omega (arith, f .below)) (λ q. f .first j (omega arith) p r);
     }))
 
+-- the search answers that
 find : (test : ℕ → Bool) (key : ℕ → ℕ) (n : ℕ) → Find test key n (least test key n)
 unfolding least
 find test key zero = λ j l. absurd (not-suc-le-zero l)
 find test key (suc n) = find-step test key n (test n) (least test key n) refl (find test key n)
 
+-- it finds none
 pub least-none : (test : ℕ → Bool) (key : ℕ → ℕ) (n : ℕ) → least test key n ≡ none → (j : ℕ) → j < n → test j ≡ false
 least-none test key n e = rw e at (find test key n)
 
+-- it finds one
 pub least-some : (test : ℕ → Bool) (key : ℕ → ℕ) (n k : ℕ) → least test key n ≡ some k → Least test key n k
 least-some test key n k e = rw e at (find test key n)
 
+-- where none passes it finds none
 pub least-empty : (test : ℕ → Bool) (key : ℕ → ℕ) (n : ℕ) → ((j : ℕ) → j < n → test j ≡ false) → least test key n ≡ none
 least-empty test key n h = opt (least test key n) (λ e. e) (λ k e. let l = least-some test key n k e in clash (l .passes) (h k (l .below)))
 
@@ -215,6 +233,7 @@ least-unique test key n k l = opt (least test key n)
     ) in
     e ∙ ap some q)
 
+-- equal keys
 better-same : (n : ℕ) (f g : ℕ → ℕ) (b : Bool) (o : Option ℕ) → ((k : ℕ) → k < suc n → f k ≡ g k) → ((k : ℕ) → o ≡ some k → k < n) → better f n b o ≡ better g n b o
 unfolding better
 better-same n f g false o h l = refl
@@ -237,11 +256,13 @@ abbrev pub byteOf : (ℕ → Bool) → ℕ → ℕ
 byteOf t zero = zero
 byteOf t (suc n) = oneIf (t zero) + 2 * byteOf (λ i. t (suc i)) n
 
+-- equal tests
 pub byte-same : (t u : ℕ → Bool) (n : ℕ) → ((i : ℕ) → i < n → t i ≡ u i) → byteOf t n ≡ byteOf u n
 byte-same t u zero h = refl
 byte-same t u (suc n) h =
     ap₂ (λ (a b : ℕ). a + 2 * b) (ap oneIf (h zero (omega arith))) (byte-same (λ i. t (suc i)) (λ i. u (suc i)) n (λ i l. h (suc i) (omega arith)))
 
+-- no bit
 pub byte-none : (n : ℕ) → byteOf (λ i. false) n ≡ 0
 byte-none zero = refl
 byte-none (suc n) = omega (arith, byte-none n, no-zero false refl)
@@ -254,11 +275,13 @@ byte-more t u (suc n) zero l a b h =
 byte-more t u (suc n) (suc i) l a b h =
     omega (arith, ap oneIf (h zero (omega arith)), byte-more (λ j. t (suc j)) (λ j. u (suc j)) n i (omega arith) a b (λ j q. h (suc j) (omega arith)), pow-succ' 2 i)
 
+-- a bit is 0 or 1
 one-small : (b : Bool) → oneIf b < 2
 unfolding oneIf
 one-small true = omega arith
 one-small false = omega arith
 
+-- and is read back
 one-test : (b : Bool) → eqb (oneIf b) 1 ≡ b
 unfolding oneIf
 one-test true = refl

@@ -70,9 +70,11 @@ plan-planned s r steps processors steps′ processors′ e p q = record {
 -- ---- demand 3
 
 module _ {Val : Type 0} (R : Rule Val) (s : LoopNest) (L : Layout) (st₀ : State Val) (ok : refusal s ≡ 0) (pl : Planned s L) (fr : Fresh s st₀) where
+  -- the nest's layout is causal
   abbrev C : Causal s (layoutOf s)
   C = causal s ok
 
+  -- the tables hold it
   abbrev same : SameLayout s L (layoutOf s)
   same = planned-same s L ok pl
 
@@ -84,6 +86,7 @@ module _ {Val : Type 0} (R : Rule Val) (s : LoopNest) (L : Layout) (st₀ : Stat
   kept : (ms : List Move) → Kept R s st₀ (referenceRun s ms) (run R s L st₀ ms)
   kept ms = run-kept R s ok L (layoutOf s) C same st₀ fr freshMachine st₀ ms (fresh-sound s (layoutOf s)) (fresh-kept R s ok L (layoutOf s) C same st₀ fr)
 
+  -- the numbers answered are its own
   same-numbers : (ms : List Move) → answers R s L st₀ ms ≡ referenceAnswers s ms
   same-numbers ms = run-answers R s ok L (layoutOf s) C same st₀ fr freshMachine st₀ ms (fresh-sound s (layoutOf s)) (fresh-kept R s ok L (layoutOf s) C same st₀ fr)
 
@@ -91,6 +94,7 @@ module _ {Val : Type 0} (R : Rule Val) (s : LoopNest) (L : Layout) (st₀ : Stat
   next-effect : (ms : List Move) (mv : Move) → moveEffect s L (run R s L st₀ ms) mv ≡ effect s (machineView (layoutOf s) (referenceRun s ms)) mv
   next-effect ms mv = same-effect R s ok L (layoutOf s) C same st₀ fr (referenceRun s ms) (run R s L st₀ ms) (kept ms) mv
 
+  -- and is answered the same
   next-answer : (ms : List Move) (mv : Move) → moveAnswer s L (run R s L st₀ ms) mv ≡ machineAnswer s (layoutOf s) (referenceRun s ms) mv
   next-answer ms mv = ap answer (next-effect ms mv)
 

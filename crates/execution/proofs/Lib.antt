@@ -5,4 +5,4 @@ pub mod MachineLaws
 pub mod TableLaws
 pub mod Demand
 pub mod WordLaws
-pub mod Check
+pub mod ExampleRun

@@ -54,6 +54,7 @@ module _ (s : LoopNest) (L : Layout) where
 
   -- ---- nothing yet
 
+  -- the empty sets are sound
   pub fresh-sound : Sound freshMachine
   fresh-sound = record {
     iterations = λ k e. clash e refl;
@@ -62,6 +63,7 @@ module _ (s : LoopNest) (L : Layout) where
     received = λ k i e h m. clash e refl;
   }
 
+  -- and nothing is done
   pub fresh-size : size freshMachine ≡ 0
   fresh-size =
       omega (
@@ -73,6 +75,7 @@ module _ (s : LoopNest) (L : Layout) where
   -- ---- one move
 
   module _ (b : Machine) where
+    -- what a move looks at
     abbrev v : View
     v = machineView L b
 
@@ -109,11 +112,13 @@ module _ (s : LoopNest) (L : Layout) where
         let c = and-left (sourceDone v (sourceRank s k i)) (not (b .delivered k i)) d in
         (hk, hi, not-true (b .delivered k i) (and-right (sourceDone v (sourceRank s k i)) (not (b .delivered k i)) d), m, λ j e. ap (sourceDone v) (sym e) ∙ c)
 
+    -- that is known of every move
     pub effect-valid : Sound b → (mv : Move) → Valid b (effect s v mv)
     effect-valid sd mv =
         by-move s v (λ _ x. Valid b x) (λ p h e. absurd (omega arith)) (λ p h q e. absurd (omega arith)) (λ p k h q t e. absurd (omega arith)) (λ p k h q t. taken-valid sd p k q t)
         (λ k i h e. absurd (omega arith)) (λ k i hk hi r e. absurd (omega arith)) ready-valid mv
 
+    -- the sets stay sound
     pub after-sound : (x : Effect) → Valid b x → Sound b → Sound (machineAfter b x)
     after-sound (refuse a) h sd = sd
     after-sound (iteration k) h sd = record {
@@ -158,16 +163,20 @@ module _ (s : LoopNest) (L : Layout) where
 
   -- ---- a list of moves
 
+  -- after a move they are sound
   pub next-sound : (b : Machine) → Sound b → (mv : Move) → Sound (machineNext s L b mv)
   next-sound b sd mv = after-sound b (effect s (machineView L b) mv) (effect-valid b sd mv) sd
 
+  -- and one more is done if it is allowed
   next-size : (b : Machine) → Sound b → (mv : Move) → size (machineNext s L b mv) ≡ oneIf (eqb (machineAnswer s L b mv) 0) + size b
   next-size b sd mv = after-size b (effect s (machineView L b) mv) (effect-valid b sd mv)
 
+  -- after a list of moves they are sound
   pub run-sound : (b : Machine) (ms : List Move) → Sound b → Sound (machineRun s L b ms)
   run-sound b [] sd = sd
   run-sound b (mv ∷ ms) sd = run-sound (machineNext s L b mv) ms (next-sound b sd mv)
 
+  -- one more answer
   allowed-more : (a : ℕ) (rest : List ℕ) → allowedCount (a ∷ rest) ≡ oneIf (eqb a 0) + allowedCount rest
   unfolding oneIf
   allowed-more a rest = split (eqb a 0)
@@ -188,9 +197,11 @@ module _ (s : LoopNest) (L : Layout) where
   -- ---- progress
 
   module _ (b : Machine) where
+    -- what a move looks at
     abbrev w : View
     w = machineView L b
 
+    -- an iteration whose sources are there can be computed
     pub can-compute : (p k : ℕ) → p < 2 ^ toℕ (s .cube) → taken s w p ≡ some k → every (λ i. there w p k i (sourceRank s k i)) (countOf s) ≡ true
         → machineAnswer s L b (compute p) ≡ 0
     can-compute p k h q t = ap answer (compute-there s w p h ∙ ap (taking s w p) q ∙ taking-ready s w p k t)
@@ -202,9 +213,11 @@ module _ (s : LoopNest) (L : Layout) where
         ap answer (deliver-there s w k i hk hi ∙ delivering-ready s w k i (both m (both (ap (sourceDone w) q ∙ c) (ap not d))))
 
     module _ (C : Causal s L) where
+      -- an iteration is not computed
       missing : ℕ → Bool
       missing c = not (b .computed c)
 
+      -- some move is allowed
       abbrev Allowed : Type 0
       Allowed = (mv : Move) × (machineAnswer s L b mv ≡ 0)
 

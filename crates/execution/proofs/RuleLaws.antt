@@ -43,14 +43,17 @@ module _ (s : LoopNest) (ps : List ℕ) (k i : ℕ) where
 
 -- a compute waits, or takes its iteration
 module _ (s : LoopNest) (v : View) where
+  -- there is none
   pub taking-none : (p : ℕ) → taking s v p none ≡ refuse 17
   unfolding taking
   taking-none p = refl
 
+  -- its sources are there
   pub taking-ready : (p k : ℕ) → every (λ i. there v p k i (sourceRank s k i)) (countOf s) ≡ true → taking s v p (some k) ≡ iteration k
   unfolding taking
   taking-ready p k t = rw (t, taking) refl
 
+  -- they are not
   pub taking-waits : (p k : ℕ) → every (λ i. there v p k i (sourceRank s k i)) (countOf s) ≡ false → taking s v p (some k) ≡ refuse 15
   unfolding taking
   taking-waits p k t = rw (t, taking) refl
@@ -157,6 +160,7 @@ pub record Agree (s : LoopNest) (v w : View) : Type 0 where
 
 module _ (s : LoopNest) (v w : View) (a : Agree s v w)
     (below : (k i j : ℕ) → k < length (pointsOf s) → i < countOf s → sourceRank s k i ≡ some j → j < length (pointsOf s)) where
+  -- the same sources are there
   there-same : (p k i : ℕ) → k < length (pointsOf s) → i < countOf s → there v p k i (sourceRank s k i) ≡ there w p k i (sourceRank s k i)
   there-same p k i hk hi = opt (sourceRank s k i)
       (λ q. ap (there v p k i) q ∙ sym (ap (there w p k i) q))
@@ -171,6 +175,7 @@ module _ (s : LoopNest) (v w : View) (a : Agree s v w)
           let e = eqb-false (processorIn w j) p t in
           there-other v p k i j (λ q. e (sym (a .processor j l) ∙ q)) ∙ a .delivered k i hk hi ∙ sym (there-other w p k i j e))
 
+  -- the same is made of an iteration
   taking-same : (p : ℕ) (o : Option ℕ) → ((k : ℕ) → o ≡ some k → k < length (pointsOf s)) → taking s v p o ≡ taking s w p o
   taking-same p none h = taking-none s v p ∙ sym (taking-none s w p)
   taking-same p (some k) h =
@@ -179,11 +184,13 @@ module _ (s : LoopNest) (v w : View) (a : Agree s v w)
       (λ t. taking-ready s v p k (e ∙ t) ∙ sym (taking-ready s w p k t))
       (λ t. taking-waits s v p k (e ∙ t) ∙ sym (taking-waits s w p k t))
 
+  -- the same iteration is taken
   taken-same : (p : ℕ) → taken s v p ≡ taken s w p
   taken-same p =
       least-same (length (pointsOf s)) (waits v p) (waits w p) (stepIn v) (stepIn w)
       (λ k l. ap₂ (λ (d : Bool) (q : ℕ). not d && eqb q p) (a .done k l) (a .processor k l)) (a .step)
 
+  -- the same messages are ready
   ready-same : (k i : ℕ) → k < length (pointsOf s) → i < countOf s → ready s v k i ≡ ready s w k i
   ready-same k i hk hi = opt (sourceRank s k i)
       (λ q. not-ready s v k i q ∙ sym (not-ready s w k i q))

@@ -23,14 +23,15 @@ use Rattle.sequential.specs.Sequential.{Rule, sourceValue, valueOf, sequential}
 use Rattle.sequential.proofs.LoopLaws.{loop-length, loop-value}
 use Rattle.execution.specs.Rules.{Move, Effect, refuse, iteration, message, answer, Layout, View, effect}
 use Rattle.execution.specs.Machine.{Machine, freshMachine, machineAfter, machineView, machineAnswer, machineNext, machineRun, machineAnswers}
-use Rattle.execution.specs.Run.{State, bit, stateView, withValue, withBit, noRoom, callRefusal, stateRefusal, moveEffect, moveAnswer, after, moveAfter, run, answers}
+use Rattle.execution.specs.Run.{State, bit, stateView, withValue, withBit, noRoom, moveRefusal, stateRefusal, moveEffect, moveAnswer, after, moveAfter, run, answers}
 use Rattle.execution.specs.Claim.{Fresh, Holds}
-use Rattle.execution.proofs.Base.{eq?, opt, byteOf, byte-same, byte-none, byte-more, bit-byte, bit-beyond}
+use Rattle.execution.proofs.Base.{eq?, opt, yes-one, no-zero, byteOf, byte-same, byte-none, byte-more, bit-byte, bit-beyond}
 use Rattle.execution.proofs.RuleLaws.{Agree, effect-same}
 use Rattle.execution.proofs.MachineLaws.{Causal, Sound, Valid, effect-valid, next-sound}
 
 -- ---- the value of an iteration depends on its sources only
 module _ {Val : Type 0} (R : Rule Val) (s : LoopNest) where
+  -- two tables that agree on the sources of an iteration give it one value
   pub value-sources : (k : ℕ) (xs ys : List Val) → ((i j : ℕ) → i < countOf s → sourceRank s k i ≡ some j → (d : Val) → getD xs j d ≡ getD ys j d)
       → valueOf R s xs k ≡ valueOf R s ys k
   unfolding valueOf
@@ -42,6 +43,7 @@ module _ {Val : Type 0} (R : Rule Val) (s : LoopNest) where
       read i l none e = unfold sourceValue in refl
       read i l (some j) e = unfold sourceValue in h i j l e (R .boundary i)
 
+  -- the loop has a value for each iteration
   pub sequential-length : length (sequential R s) ≡ length (pointsOf s)
   unfolding sequential
   sequential-length = loop-length R s (length (pointsOf s))
@@ -61,8 +63,8 @@ module _ {Val : Type 0} (R : Rule Val) (s : LoopNest) where
 
 -- none comes up for an accepted nest and long buffers
 pub no-refusal : (s : LoopNest) → refusal s ≡ 0 → (a b c d e : ℕ) → length (pointsOf s) ≤ a → length (pointsOf s) ≤ b → length (pointsOf s) ≤ c → length (pointsOf s) ≤ d → length (pointsOf s) ≤ e
-    → callRefusal s a b c d e ≡ 0
-unfolding callRefusal
+    → moveRefusal s a b c d e ≡ 0
+unfolding moveRefusal
 no-refusal s ok a b c d e ha hb hc hd he =
     let n = length (pointsOf s) in
     orElse-second (refusal s) (noRoom n a b c d e) ok
@@ -93,18 +95,11 @@ refused-same R s L st mv n = by-effect (moveEffect s L st mv) n
 
 -- ---- the tables hold what the machine does
 
+-- a done byte is read back
 byte-test : (b : Bool) → not (eqb (oneIf b) 0) ≡ b
 unfolding oneIf
 byte-test true = refl
 byte-test false = refl
-
-yes-is-one : (b : Bool) → b ≡ true → oneIf b ≡ 1
-unfolding oneIf
-yes-is-one b e = rw e refl
-
-no-is-zero : (b : Bool) → b ≡ false → oneIf b ≡ 0
-unfolding oneIf
-no-is-zero b e = rw e refl
 
 -- two layouts agree on the iterations, and the first has an entry for each
 pub record SameLayout (s : LoopNest) (L M : Layout) : Type 0 where
@@ -127,9 +122,10 @@ pub record Kept {Val : Type 0} (R : Rule Val) (s : LoopNest) (st₀ : State Val)
   pub delivered-length : length (st .delivered) ≡ length (st₀ .delivered)
 
 module _ {Val : Type 0} (R : Rule Val) (s : LoopNest) (ok : refusal s ≡ 0) (L M : Layout) (C : Causal s M) (same : SameLayout s L M) (st₀ : State Val) (fr : Fresh s st₀) where
+  -- it holds at the start
   pub fresh-kept : Kept R s st₀ freshMachine st₀
   fresh-kept = record {
-    done = λ k l. fr .none-done k l ∙ sym (no-is-zero false refl);
+    done = λ k l. fr .none-done k l ∙ sym (no-zero false refl);
     delivered = λ k l. fr .none-delivered k l ∙ sym (byte-none (countOf s));
     value = λ k l e d. clash e refl;
     missing = λ k l e d. refl;
@@ -144,8 +140,8 @@ module _ {Val : Type 0} (R : Rule Val) (s : LoopNest) (ok : refusal s ≡ 0) (L 
   -- what the invariant says in the claim's words
   pub kept-holds : (b : Machine) (st : State Val) → Sound s M b → Kept R s st₀ b st → Holds R s st₀ b st
   kept-holds b st sd h = record {
-    done = λ k l e. h .done k l ∙ yes-is-one (b .computed k) e;
-    not-done = λ k l e. h .done k l ∙ no-is-zero (b .computed k) e;
+    done = λ k l e. h .done k l ∙ yes-one (b .computed k) e;
+    not-done = λ k l e. h .done k l ∙ no-zero (b .computed k) e;
     delivered = λ k i l. ap (bit i) (h .delivered k l) ∙ each k i;
     value = h .value;
     missing = h .missing;
@@ -194,13 +190,14 @@ module _ {Val : Type 0} (R : Rule Val) (s : LoopNest) (ok : refusal s ≡ 0) (L 
       (λ i j hi q e. let l = C .earlier k i j (w .0) hi q in h .value j (omega (arith, w .0)) (w .2 i j hi q) e)
       ∙ sym (loop-value R s ok k (w .0) d)
 
+  -- an effect keeps it
   pub after-kept : (b : Machine) (st : State Val) (x : Effect) → Valid s M b x → Kept R s st₀ b st → Kept R s st₀ (machineAfter b x) (after R s st x)
   after-kept b st (refuse a) w h = h
   after-kept b st (iteration k) w h = record {
     done = λ c l. eq? c k
         (λ q.
         ap (λ z. getD (set (st .done) k 1) z 0) q ∙ getD-set-same (st .done) k 1 0 (let r = fr .done-room in let e = h .done-length in omega (arith, w .0))
-        ∙ sym (yes-is-one (eqb c k || b .computed c) (ap (λ t. t || b .computed c) (eq-eqb c k q))))
+        ∙ sym (yes-one (eqb c k || b .computed c) (ap (λ t. t || b .computed c) (eq-eqb c k q))))
         (λ q. getD-set-other (st .done) k c 1 0 q ∙ h .done c l ∙ ap (λ t. oneIf (t || b .computed c)) (sym (ne-eqb c k q)));
     delivered = h .delivered;
     value = λ c l e d. eq? c k
@@ -251,14 +248,17 @@ module _ {Val : Type 0} (R : Rule Val) (s : LoopNest) (ok : refusal s ≡ 0) (L 
 
   -- ---- a move, and a list of moves
 
+  -- a move keeps it
   pub next-kept : (b : Machine) (st : State Val) → Sound s M b → Kept R s st₀ b st → (mv : Move) → Kept R s st₀ (machineNext s M b mv) (moveAfter R s L st mv)
   next-kept b st sd h mv =
       subst (λ x. Kept R s st₀ (machineNext s M b mv) (after R s st x)) (sym (same-effect b st h mv)) (after-kept b st (effect s (machineView M b) mv) (effect-valid s M b sd mv) h)
 
+  -- a list of moves keeps it
   pub run-kept : (b : Machine) (st : State Val) (ms : List Move) → Sound s M b → Kept R s st₀ b st → Kept R s st₀ (machineRun s M b ms) (run R s L st ms)
   run-kept b st [] sd h = h
   run-kept b st (mv ∷ ms) sd h = run-kept (machineNext s M b mv) (moveAfter R s L st mv) ms (next-sound s M b sd mv) (next-kept b st sd h mv)
 
+  -- and is answered as the machine answers it
   pub run-answers : (b : Machine) (st : State Val) (ms : List Move) → Sound s M b → Kept R s st₀ b st → answers R s L st ms ≡ machineAnswers s M b ms
   run-answers b st [] sd h = refl
   run-answers b st (mv ∷ ms) sd h =
@@ -266,13 +266,16 @@ module _ {Val : Type 0} (R : Rule Val) (s : LoopNest) (ok : refusal s ≡ 0) (L 
 
 -- ---- more moves at the end of a list
 
+-- the machine goes on
 pub machine-append : (s : LoopNest) (L : Layout) (b : Machine) (ms more : List Move) → machineRun s L b (ms ++ more) ≡ machineRun s L (machineRun s L b ms) more
 machine-append s L b [] more = refl
 machine-append s L b (m ∷ ms) more = machine-append s L (machineNext s L b m) ms more
 
+-- by one move
 pub machine-snoc : (s : LoopNest) (L : Layout) (b : Machine) (ms : List Move) (mv : Move) → machineRun s L b (ms ++ (mv ∷ [])) ≡ machineNext s L (machineRun s L b ms) mv
 machine-snoc s L b ms mv = machine-append s L b ms (mv ∷ [])
 
+-- and so does the run
 pub run-snoc : {Val : Type 0} (R : Rule Val) (s : LoopNest) (L : Layout) (st : State Val) (ms : List Move) (mv : Move)
     → run R s L st (ms ++ (mv ∷ [])) ≡ moveAfter R s L (run R s L st ms) mv
 run-snoc R s L st [] mv = refl

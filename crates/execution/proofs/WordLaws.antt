@@ -26,14 +26,17 @@ module _ (s : LoopNest) (v : View) where
   is-waiting : (p c : ℕ) → processorIn v c ≡ p → v .done c ≡ false → waits v p c ≡ true
   is-waiting p c q m = both (ap not m) (eq-eqb (processorIn v c) p q)
 
+  -- it is on p
   waiting-on : (p c : ℕ) → waits v p c ≡ true → processorIn v c ≡ p
   waiting-on p c t = eqb-true (processorIn v c) p (and-right (not (v .done c)) (eqb (processorIn v c) p) t)
 
+  -- and not done
   waiting-not-done : (p c : ℕ) → waits v p c ≡ true → v .done c ≡ false
   waiting-not-done p c t = not-true (v .done c) (and-left (not (v .done c)) (eqb (processorIn v c) p) t)
 
   -- ---- what the rules do, the sentences say
 
+  -- the iteration taken
   takes-of : (p k : ℕ) → taken s v p ≡ some k → Takes s v p k
   takes-of p k e =
       let l = least-some (waits v p) (stepIn v) (length (pointsOf s)) k e in
@@ -45,15 +48,19 @@ module _ (s : LoopNest) (v : View) where
         least-rank = λ c lc q m r. l .first c lc (is-waiting p c q m) (omega arith);
       }
 
+  -- none is taken
   all-done : (p : ℕ) → taken s v p ≡ none → (k : ℕ) → k < length (pointsOf s) → processorIn v k ≡ p → v .done k ≡ true
   all-done p e k l q = split (v .done k) (λ t. t) (λ t. clash (is-waiting p k q t) (least-none (waits v p) (stepIn v) (length (pointsOf s)) e k l))
 
+  -- a source is there
   present-of : (p k i j : ℕ) → there v p k i (some j) ≡ true → Present v p k i j
   present-of p k i j t = (λ e. sym (there-own v p k i j e) ∙ t, λ e. sym (there-other v p k i j e) ∙ t)
 
+  -- it is not
   absent-of : (p k i j : ℕ) → there v p k i (some j) ≡ false → Absent v p k i j
   absent-of p k i j t = eq? (processorIn v j) p (λ e. inl (e, sym (there-own v p k i j e) ∙ t)) (λ e. inr (e, sym (there-other v p k i j e) ∙ t))
 
+  -- a compute that waits
   say-waiting : (p k : ℕ) → p < 2 ^ toℕ (s .cube) → taken s v p ≡ some k → every (λ i. there v p k i (sourceRank s k i)) (countOf s) ≡ false → Says s v (compute p) (refuse 15)
   say-waiting p k h q t =
       let f = every-false (λ i. there v p k i (sourceRank s k i)) (countOf s) t in
@@ -61,6 +68,7 @@ module _ (s : LoopNest) (v : View) where
       (λ e. clash refl (ap (there v p k (f .0)) (sym e) ∙ f .2))
       (λ j e. waiting h (takes-of p k q) (f .1) e (absent-of p k (f .0) j (ap (there v p k (f .0)) (sym e) ∙ f .2)))
 
+  -- one that is made
   say-computes : (p k : ℕ) → p < 2 ^ toℕ (s .cube) → taken s v p ≡ some k → every (λ i. there v p k i (sourceRank s k i)) (countOf s) ≡ true → Says s v (compute p) (iteration k)
   say-computes p k h q t =
       computes h (takes-of p k q)
@@ -70,6 +78,7 @@ module _ (s : LoopNest) (v : View) where
   source-of : (k i : ℕ) (m : Sent s v k i) → sourceDone v (sourceRank s k i) ≡ v .done (m .rank)
   source-of k i m = ap (sourceDone v) (m .source)
 
+  -- a delivery that is out of turn
   say-refused : (k i : ℕ) → k < length (pointsOf s) → i < countOf s → ready s v k i ≡ false → Says s v (deliver k i) (refuse 16)
   say-refused k i hk hi r = split (isMessage s (v .layout .processors) k i)
       (λ t.
@@ -81,6 +90,7 @@ module _ (s : LoopNest) (v : View) where
       (λ d. out-of-turn hk hi (inr (inl (m, d)))))
       (λ t. out-of-turn hk hi (inl (λ m. clash (true-message s (v .layout .processors) k i m) t)))
 
+  -- one that is made
   say-delivers : (k i : ℕ) → k < length (pointsOf s) → i < countOf s → ready s v k i ≡ true → Says s v (deliver k i) (message k i)
   say-delivers k i hk hi r =
       let t = and-left (isMessage s (v .layout .processors) k i) (sourceDone v (sourceRank s k i) && not (v .delivered k i)) r in
@@ -89,12 +99,14 @@ module _ (s : LoopNest) (v : View) where
       delivers hk hi m (sym (source-of k i m) ∙ and-left (sourceDone v (sourceRank s k i)) (not (v .delivered k i)) d)
       (not-true (v .delivered k i) (and-right (sourceDone v (sourceRank s k i)) (not (v .delivered k i)) d))
 
+  -- so every effect is what they say
   pub effect-says : (mv : Move) → Says s v mv (effect s v mv)
   effect-says =
       by-move s v (Says s v) (λ p h. no-processor h) (λ p h q. idle-processor h (all-done p q)) say-waiting say-computes (λ k i h. no-place h) say-refused say-delivers
 
   -- ---- and the sentences leave no choice
 
+  -- they say which iteration is taken
   taken-of : (p k : ℕ) → Takes s v p k → taken s v p ≡ some k
   taken-of p k n = least-unique (waits v p) (stepIn v) (length (pointsOf s)) k (record {
     below = n .is-iteration;
@@ -103,15 +115,18 @@ module _ (s : LoopNest) (v : View) where
     first = λ c lc t r. n .least-rank c lc (waiting-on p c t) (waiting-not-done p c t) (let h = n .least-step c lc (waiting-on p c t) (waiting-not-done p c t) in omega arith);
   })
 
+  -- or that none is
   none-taken : (p : ℕ) → ((k : ℕ) → k < length (pointsOf s) → processorIn v k ≡ p → v .done k ≡ true) → taken s v p ≡ none
   none-taken p h = least-empty (waits v p) (stepIn v) (length (pointsOf s))
       (λ k l. split (waits v p k) (λ t. clash (h k l (waiting-on p k t)) (waiting-not-done p k t)) (λ t. t))
 
+  -- that a source is there
   there-present : (p k i : ℕ) → ((j : ℕ) → sourceRank s k i ≡ some j → Present v p k i j) → there v p k i (sourceRank s k i) ≡ true
   there-present p k i h = opt (sourceRank s k i) (λ q. ap (there v p k i) q) (λ j q. ap (there v p k i) q ∙ eq? (processorIn v j) p
       (λ e. there-own v p k i j e ∙ h j q .0 e)
       (λ e. there-other v p k i j e ∙ h j q .1 e))
 
+  -- or is not
   there-absent : (p k i j : ℕ) → sourceRank s k i ≡ some j → Absent v p k i j → there v p k i (sourceRank s k i) ≡ false
   there-absent p k i j q (inl h) = ap (there v p k i) q ∙ there-own v p k i j (h .0) ∙ h .1
   there-absent p k i j q (inr h) = ap (there v p k i) q ∙ there-other v p k i j (h .0) ∙ h .1
@@ -129,6 +144,7 @@ module _ (s : LoopNest) (v : View) where
           let d = and-right (isMessage s (v .layout .processors) k i) (sourceDone v (sourceRank s k i) && not (v .delivered k i)) r in
           clash e (not-true (v .delivered k i) (and-right (sourceDone v (sourceRank s k i)) (not (v .delivered k i)) d))
 
+  -- so what they say is the effect
   pub says-unique : (mv : Move) (x : Effect) → Says s v mv x → effect s v mv ≡ x
   says-unique mv x (no-processor {p = p} h) = compute-nowhere s v p h
   says-unique mv x (idle-processor {p = p} h d) = compute-there s v p h ∙ ap (taking s v p) (none-taken p d) ∙ taking-none s v p

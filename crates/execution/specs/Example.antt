@@ -20,12 +20,13 @@ use Rattle.sequential.specs.Sequential.{sourceValue, valueOf, loop, sequential,
 use Rattle.planner.specs.Examples.{vector, listed}
 use Rattle.execution.specs.Rules.{every, better, least, Move, compute, deliver, Layout, taking, delivering, effect}
 use Rattle.execution.specs.Machine.{referenceAnswers, allowedCount}
-use Rattle.execution.specs.Run.{State, callRefusal, moveEffect, run, answers}
+use Rattle.execution.specs.Run.{State, moveRefusal, moveEffect, run, answers}
 
 -- the planner's tables, with an entry behind them
 abbrev pub exampleLayout : Layout
 exampleLayout = record { steps = 0 ∷ 1 ∷ 2 ∷ 1 ∷ 2 ∷ 3 ∷ 8 ∷ []; processors = 0 ∷ 0 ∷ 1 ∷ 0 ∷ 0 ∷ 0 ∷ 200 ∷ [] }
 
+-- they are those of the nest
 pub example-steps : stepsOf listed ≡ 0 ∷ 1 ∷ 2 ∷ 1 ∷ 2 ∷ 3 ∷ []
 unfolding stepsOf any tab dots toℕ part limitsOf timeOf padded nestOf extent indices points pointsOf leastZ step vector listed flatMap
 example-steps = refl
@@ -42,11 +43,13 @@ exampleState = record {
   delivered = 0 ∷ 0 ∷ 0 ∷ 0 ∷ 0 ∷ 0 ∷ 255 ∷ [];
 }
 
+-- refused moves of every kind among them
 abbrev pub exampleMoves : List Move
 exampleMoves =
     compute 1 ∷ compute 0 ∷ compute 2 ∷ compute 0 ∷ compute 1 ∷ deliver 2 0 ∷ deliver 2 0 ∷ compute 1 ∷ compute 1 ∷ deliver 6 0 ∷ deliver 2 1
     ∷ compute 0 ∷ compute 0 ∷ compute 0 ∷ deliver 5 1 ∷ compute 0 ∷ compute 0 ∷ deliver 0 2 ∷ []
 
+-- what they are answered
 abbrev pub exampleAnswers : List ℕ
 exampleAnswers = 15 ∷ 0 ∷ 18 ∷ 0 ∷ 15 ∷ 0 ∷ 16 ∷ 0 ∷ 17 ∷ 18 ∷ 16 ∷ 0 ∷ 0 ∷ 15 ∷ 0 ∷ 0 ∷ 17 ∷ 18 ∷ []
 
@@ -57,7 +60,7 @@ example-allowed = refl
 
 -- the run on the tables answers these numbers
 pub example-answers : answers (ruleOf listed) listed exampleLayout exampleState exampleMoves ≡ exampleAnswers
-unfolding any place count tab dots plus times eqZ eqV toℕ part limitsOf timeOf dependencesOf weightsOf padded nestOf extent indices points pointsOf pointCount rank isPoint source number outside crossed outOfSpan backward holds firstMet refusal repeats orElse shortBuffer sourceRank crosses isMessage sourceValue valueOf sum weightedSum ruleOf vector listed flatMap zipWith every better least taking delivering effect callRefusal moveEffect
+unfolding any place count tab dots plus times eqZ eqV toℕ part limitsOf timeOf dependencesOf weightsOf padded nestOf extent indices points pointsOf pointCount rank isPoint source number outside crossed outOfSpan backward holds firstMet refusal repeats orElse shortBuffer sourceRank crosses isMessage sourceValue valueOf sum weightedSum ruleOf vector listed flatMap zipWith every better least taking delivering effect moveRefusal moveEffect
 example-answers = refl
 
 -- and ends with the sequential table; what stood behind the last iteration is there
@@ -66,7 +69,7 @@ pub example-run : run (ruleOf listed) listed exampleLayout exampleState exampleM
   done = 1 ∷ 1 ∷ 1 ∷ 1 ∷ 1 ∷ 1 ∷ 7 ∷ [];
   delivered = 0 ∷ 0 ∷ 1 ∷ 0 ∷ 0 ∷ 2 ∷ 255 ∷ [];
 }
-unfolding any place count tab dots plus times eqZ eqV toℕ part limitsOf timeOf dependencesOf weightsOf padded nestOf extent indices points pointsOf pointCount rank isPoint source number outside crossed outOfSpan backward holds firstMet refusal repeats orElse shortBuffer sourceRank crosses isMessage sourceValue valueOf sum weightedSum ruleOf vector listed flatMap zipWith every better least taking delivering effect callRefusal moveEffect
+unfolding any place count tab dots plus times eqZ eqV toℕ part limitsOf timeOf dependencesOf weightsOf padded nestOf extent indices points pointsOf pointCount rank isPoint source number outside crossed outOfSpan backward holds firstMet refusal repeats orElse shortBuffer sourceRank crosses isMessage sourceValue valueOf sum weightedSum ruleOf vector listed flatMap zipWith every better least taking delivering effect moveRefusal moveEffect
 example-run = refl
 
 -- the reference machine, fed the nest and the moves, answers them too

@@ -36,21 +36,26 @@ machineAfter b (refuse a) = b
 machineAfter b (iteration k) = withIteration b k
 machineAfter b (message k i) = withMessage b k i
 
+-- what a move looks at
 abbrev pub machineView : Layout → Machine → View
 machineView L b = record { layout = L; done = b .computed; delivered = b .delivered }
 
 -- ---- moves one after the other, on any layout
 module _ (s : LoopNest) (L : Layout) where
+  -- the number that a move is answered
   abbrev pub machineAnswer : Machine → Move → ℕ
   machineAnswer b mv = answer (effect s (machineView L b) mv)
 
+  -- the machine after it
   abbrev pub machineNext : Machine → Move → Machine
   machineNext b mv = machineAfter b (effect s (machineView L b) mv)
 
+  -- after a list of moves
   abbrev pub machineRun : Machine → List Move → Machine
   machineRun b [] = b
   machineRun b (mv ∷ ms) = machineRun (machineNext b mv) ms
 
+  -- the numbers that they are answered
   abbrev pub machineAnswers : Machine → List Move → List ℕ
   machineAnswers b [] = []
   machineAnswers b (mv ∷ ms) = machineAnswer b mv ∷ machineAnswers (machineNext b mv) ms

@@ -64,6 +64,7 @@ pub record View : Type 0 where
   pub done : ℕ → Bool
   pub delivered : ℕ → ℕ → Bool
 
+-- of iteration k
 abbrev pub stepIn : View → ℕ → ℕ
 stepIn v k = getD (v .layout .steps) k 0
 

@@ -46,11 +46,12 @@ noRoom n steps processors values done delivered =
     orElse (shortBuffer n steps) (orElse (shortBuffer n processors) (orElse (shortBuffer n values) (orElse (shortBuffer n done) (shortBuffer n delivered))))
 
 -- for a layout and a state of these lengths
-unfoldable pub callRefusal : LoopNest → ℕ → ℕ → ℕ → ℕ → ℕ → ℕ
-callRefusal s steps processors values done delivered = orElse (refusal s) (noRoom (length (pointsOf s)) steps processors values done delivered)
+unfoldable pub moveRefusal : LoopNest → ℕ → ℕ → ℕ → ℕ → ℕ → ℕ
+moveRefusal s steps processors values done delivered = orElse (refusal s) (noRoom (length (pointsOf s)) steps processors values done delivered)
 
+-- for this layout and state
 abbrev pub stateRefusal : {Val : Type 0} → LoopNest → Layout → State Val → ℕ
-stateRefusal s L st = callRefusal s (length (L .steps)) (length (L .processors)) (length (st .values)) (length (st .done)) (length (st .delivered))
+stateRefusal s L st = moveRefusal s (length (L .steps)) (length (L .processors)) (length (st .values)) (length (st .done)) (length (st .delivered))
 
 -- what a move on this layout and state comes to
 unfoldable pub moveEffect : {Val : Type 0} → LoopNest → Layout → State Val → Move → Effect
@@ -76,10 +77,12 @@ module _ {Val : Type 0} (R : Rule Val) (s : LoopNest) where
 
     -- ---- moves one after the other, each on the state that the one before left
 
+    -- the state after a list of moves
     abbrev pub run : State Val → List Move → State Val
     run st [] = st
     run st (mv ∷ ms) = run (moveAfter st mv) ms
 
+    -- the numbers that they are answered
     abbrev pub answers : State Val → List Move → List ℕ
     answers st [] = []
     answers st (mv ∷ ms) = moveAnswer s L st mv ∷ answers (moveAfter st mv) ms

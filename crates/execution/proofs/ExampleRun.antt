@@ -21,14 +21,17 @@ use Rattle.execution.specs.Example.{exampleLayout, exampleState, example
 use Rattle.execution.proofs.Base.{every-true}
 use Rattle.execution.proofs.Demand.{run-outcome}
 
+-- the nest is accepted
 example-accepted : refusal listed ≡ 0
 unfolding any tab repeats dots eqZ eqV toℕ part limitsOf timeOf dependencesOf weightsOf padded nestOf extent indices points pointsOf pointCount number outside crossed outOfSpan backward holds firstMet refusal vector listed flatMap
 example-accepted = refl
 
+-- it has six iterations
 example-count : length (pointsOf listed) ≡ 6
 unfolding tab toℕ limitsOf padded nestOf extent indices points pointsOf vector listed flatMap
 example-count = refl
 
+-- the tables are the planner's
 example-planned : Planned listed exampleLayout
 example-planned = record {
   behind-steps = 8 ∷ [];
@@ -41,6 +44,7 @@ example-planned = record {
 zeros-by-test : (xs : List ℕ) (n : ℕ) → every (λ k. eqb (getD xs k 0) 0) n ≡ true → (k : ℕ) → k < n → getD xs k 0 ≡ 0
 zeros-by-test xs n e k l = eqb-true (getD xs k 0) 0 (every-true (λ c. eqb (getD xs c 0) 0) n e k l)
 
+-- the state is fresh
 example-fresh : Fresh listed exampleState
 unfolding every
 example-fresh = record {
