@@ -1,18 +1,17 @@
 -- Laws of the general definitions that the run uses: tests, sums and counts, tests below a bound, the least number, bytes made of bits.
 -- Assumes nothing.
 use mathlib.Core.Path.{_≡_, refl, sym, ap, ap₂, subst, _∙_}
-use mathlib.Core.Bool.{Bool, true, false, not, _&&_, _||_}
+use mathlib.Core.Bool.{Bool, true, false, _&&_, _||_}
 use mathlib.Core.Logic.{_≢_}
 use mathlib.Core.Option.{Option, none, some}
-use mathlib.Core.List.{List, [], _∷_, _++_}
 use Prim.Native.Nat.{ℕ, zero, suc, _+_, _*_, _/_, _%_, _^_, _≤_, _<_}
 use native.Mathlib.Nat.{le-trans, not-suc-le-zero, pow-succ', div-div-eq-div-mul, div-eq-of-lt}
 use native.Mathlib.Numerals.{add-one}
 use native.Mathlib.Omega.{arith}
 use lib.Dec.{ltb, eqb}
 use lib.Pow.{pow-mono}
-use borrow.Author.Tests.{ltb-true, ltb-false, eqb-true, eqb-false, lt-ltb, le-ltb, eq-eqb, ne-eqb}
-use Rattle.integers.specs.Lists.{tab, tab-more, tab-same, count, split, clash}
+use borrow.Author.Tests.{ltb-true, ltb-false, eqb-true, eqb-false}
+use Rattle.integers.specs.Lists.{tab, tab-same, split, clash}
 use Rattle.mapping.specs.Mapping.{total}
 use Rattle.mapping.specs.Keys.{oneIf}
 use Rattle.mapping.proofs.Messages.{count-tab-more, count-none, total-tab-more, total-none}

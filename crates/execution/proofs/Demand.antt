@@ -1,10 +1,9 @@
 -- Demand 3 of every accepted nest: on tables that the planner made, from a fresh state, any list of moves comes to what specs/Claim.antt says, under every rule.
 -- Assumes nothing.
 use mathlib.Core.Path.{_≡_, refl, sym, ap, ap₂, subst, _∙_}
-use mathlib.Core.Bool.{true, false}
+use mathlib.Core.Bool.{true}
 use mathlib.Core.List.{List, [], _∷_, _++_}
-use mathlib.Core.Logic.{_≢_, _↔_}
-use mathlib.Core.Option.{some}
+use mathlib.Core.Logic.{_↔_}
 use Prim.Native.Nat.{ℕ, _+_, _*_, _≤_, _<_}
 use native.Mathlib.Omega.{arith}
 use borrow.Author.Tests.{eq-eqb, ne-eqb}
@@ -14,7 +13,7 @@ use Rattle.nest.specs.Nest.{countOf}
 use Rattle.nest.specs.Points.{pointsOf}
 use Rattle.nest.specs.Refusals.{refusal}
 use Rattle.nest.proofs.Entries.{orElse-zero}
-use Rattle.partition.specs.Partition.{stepsOf, blocksOf}
+use Rattle.partition.specs.Partition.{stepsOf}
 use Rattle.partition.proofs.Theorems.{later-step, steps-length}
 use Rattle.mapping.specs.Mapping.{processorsOf, isMessage, messageCount}
 use Rattle.mapping.proofs.Theorems.{processors-length, processors-below}
@@ -24,10 +23,10 @@ use Rattle.planner.specs.declared.Planning.{Planning}
 use Rattle.planner.specs.Plan.{noRoom, planRefusal, planAnswer, tableAfter}
 use Rattle.execution.specs.Rules.{Move, Effect, refuse, iteration, message, answer, Layout, effect}
 use Rattle.execution.specs.Machine.{Machine, freshMachine, machineAfter, machineView, machineAnswer, machineNext, layoutOf, referenceRun, referenceAnswers, computedCount, deliveredCount, allowedCount}
-use Rattle.execution.specs.Run.{State, moveEffect, moveAnswer, after, moveAfter, run, answers}
-use Rattle.execution.specs.Claim.{Planned, Fresh, Holds, Change, one-iteration, one-message, nothing, NoneMissing, NoneAllowed, Complete, Outcome, Calls, no-call, call}
+use Rattle.execution.specs.Run.{State, moveEffect, moveAnswer, after, run, answers}
+use Rattle.execution.specs.Claim.{Planned, Fresh, Change, one-iteration, one-message, nothing, NoneMissing, NoneAllowed, Complete, Outcome, Calls, no-call, call}
 use Rattle.execution.proofs.Base.{eq?}
-use Rattle.execution.proofs.MachineLaws.{Causal, Sound, Valid, size, fresh-sound, fresh-size, effect-valid, run-sound, run-size, progress, stuck, all-delivered, full-size, none-left, finish}
+use Rattle.execution.proofs.MachineLaws.{Causal, Sound, Valid, fresh-sound, fresh-size, effect-valid, run-sound, run-size, progress, stuck, all-delivered, full-size, none-left, finish}
 use Rattle.execution.proofs.TableLaws.{SameLayout, Kept, begins-with, fresh-kept, kept-holds, kept-accepted, same-effect, written, run-kept, run-answers, machine-append, machine-snoc, run-snoc}
 
 -- ---- the nest's own layout

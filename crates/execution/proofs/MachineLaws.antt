@@ -3,13 +3,13 @@
 -- Assumes nothing.
 use mathlib.Core.Path.{_≡_, refl, sym, ap, ap₂, subst, _∙_}
 use mathlib.Core.Bool.{Bool, true, false, not, _&&_, _||_}
-use mathlib.Core.List.{List, [], _∷_, _++_}
-use mathlib.Core.Logic.{_≢_, _⊎_}
-use mathlib.Core.Option.{Option, none, some}
+use mathlib.Core.List.{List, [], _∷_}
+use mathlib.Core.Logic.{_≢_}
+use mathlib.Core.Option.{some}
 use Prim.Native.Nat.{ℕ, zero, suc, _+_, _*_, _^_, _≤_, _<_}
 use native.Mathlib.Omega.{arith}
-use borrow.Author.Tests.{ltb-true, eqb-true, eqb-false, eq-eqb, ne-eqb, not-true, not-false}
-use lib.Dec.{eqb, ltb}
+use borrow.Author.Tests.{eqb-true, eqb-false, eq-eqb, ne-eqb, not-true, not-false}
+use lib.Dec.{eqb}
 use lib.ListN.{length, getD}
 use Rattle.integers.specs.Lists.{tab, count, split, clash, or-right, count-yes, count-no, length-tab}
 use Rattle.nest.specs.declared.LoopNest.{LoopNest}
@@ -20,8 +20,8 @@ use Rattle.mapping.specs.Mapping.{isMessage, total}
 use Rattle.mapping.specs.Keys.{oneIf}
 use Rattle.mapping.proofs.Messages.{count-most, total-most}
 use Rattle.execution.specs.Rules.{every, least, Move, compute, deliver, Effect, refuse, iteration, message, answer, Layout, View, stepIn, processorIn, waits, there, sourceDone, taking, effect}
-use Rattle.execution.specs.Machine.{Machine, freshMachine, withIteration, withMessage, machineAfter, machineView, machineAnswer, machineNext, machineRun, machineAnswers, countBelow, computedCount, deliveredCount, allowedCount}
-use Rattle.execution.proofs.Base.{eq?, opt, both, and-left, and-right, or-cases, and-eqb, sum-same, sum-more, sum-zero, count-same, count-more, count-all, count-zero, every-true, every-false, Least, least-none, least-some}
+use Rattle.execution.specs.Machine.{Machine, freshMachine, machineAfter, machineView, machineAnswer, machineNext, machineRun, machineAnswers, countBelow, computedCount, deliveredCount, allowedCount}
+use Rattle.execution.proofs.Base.{opt, both, and-left, and-right, or-cases, and-eqb, sum-same, sum-more, sum-zero, count-same, count-more, count-all, count-zero, every-true, every-false, Least, least-none, least-some}
 use Rattle.execution.proofs.RuleLaws.{there-own, there-other, message-none, message-some, taking-ready, delivering-ready, ready, taken, compute-there, deliver-there, by-move}
 
 -- a source has a smaller rank and an earlier step, and each processor is one of the machine's

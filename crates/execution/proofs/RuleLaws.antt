@@ -7,17 +7,17 @@ use mathlib.Core.Logic.{_≢_, _⊎_, inl, inr}
 use mathlib.Core.Option.{Option, none, some}
 use Prim.Native.Nat.{ℕ, _^_, _≤_, _<_}
 use native.Mathlib.Omega.{arith}
-use borrow.Author.Tests.{ltb-true, ltb-false, eqb-true, eqb-false, lt-ltb, le-ltb, eq-eqb, ne-eqb, not-true}
+use borrow.Author.Tests.{ltb-true, ltb-false, eqb-true, eqb-false, lt-ltb, le-ltb, eq-eqb, ne-eqb}
 use lib.Dec.{eqb, ltb}
 use lib.ListN.{length, getD}
-use Rattle.integers.specs.Lists.{split, clash}
+use Rattle.integers.specs.Lists.{split}
 use Rattle.nest.specs.declared.LoopNest.{LoopNest}
 use Rattle.nest.specs.Nest.{toℕ, countOf}
 use Rattle.nest.specs.Points.{pointsOf}
 use Rattle.nest.specs.Sources.{sourceRank}
 use Rattle.mapping.specs.Mapping.{crosses, isMessage}
-use Rattle.execution.specs.Rules.{every, least, Move, compute, deliver, Effect, refuse, iteration, message, Layout, View, stepIn, processorIn, waits, there, sourceDone, taking, delivering, effect}
-use Rattle.execution.proofs.Base.{opt, and-left, and-right, every-same, least-some, least-same}
+use Rattle.execution.specs.Rules.{every, least, Move, compute, deliver, Effect, refuse, iteration, message, View, stepIn, processorIn, waits, there, sourceDone, taking, delivering, effect}
+use Rattle.execution.proofs.Base.{opt, every-same, least-some, least-same}
 
 -- ---- the tests
 

@@ -11,7 +11,7 @@ use borrow.Author.Tests.{ltb-true, ltb-false, eq-eqb, ne-eqb}
 use lib.Dec.{eqb, ltb}
 use lib.ListN.{length, getD, set, take, drop, length-set, take-append-drop}
 use lib.Seq.{getD-set-same, getD-set-other, drop-set-lt, getD-take, length-take-le, ext-getD}
-use Rattle.integers.specs.Lists.{tab, tab-same, split, clash}
+use Rattle.integers.specs.Lists.{tab-same, split, clash}
 use Rattle.nest.specs.declared.LoopNest.{LoopNest}
 use Rattle.nest.specs.Nest.{countOf}
 use Rattle.nest.specs.Points.{pointsOf}
@@ -21,11 +21,11 @@ use Rattle.nest.proofs.Entries.{orElse-second, long-enough}
 use Rattle.mapping.specs.Keys.{oneIf}
 use Rattle.sequential.specs.Sequential.{Rule, sourceValue, valueOf, sequential}
 use Rattle.sequential.proofs.LoopLaws.{loop-length, loop-value}
-use Rattle.execution.specs.Rules.{Move, Effect, refuse, iteration, message, answer, Layout, View, effect}
-use Rattle.execution.specs.Machine.{Machine, freshMachine, machineAfter, machineView, machineAnswer, machineNext, machineRun, machineAnswers}
-use Rattle.execution.specs.Run.{State, bit, stateView, withValue, withBit, noRoom, moveRefusal, stateRefusal, moveEffect, moveAnswer, after, moveAfter, run, answers}
+use Rattle.execution.specs.Rules.{Move, Effect, refuse, iteration, message, answer, Layout, effect}
+use Rattle.execution.specs.Machine.{Machine, freshMachine, machineAfter, machineView, machineNext, machineRun, machineAnswers}
+use Rattle.execution.specs.Run.{State, bit, stateView, noRoom, moveRefusal, stateRefusal, moveEffect, moveAnswer, after, moveAfter, run, answers}
 use Rattle.execution.specs.Claim.{Fresh, Holds}
-use Rattle.execution.proofs.Base.{eq?, opt, yes-one, no-zero, byteOf, byte-same, byte-none, byte-more, bit-byte, bit-beyond}
+use Rattle.execution.proofs.Base.{eq?, yes-one, no-zero, byteOf, byte-same, byte-none, byte-more, bit-byte, bit-beyond}
 use Rattle.execution.proofs.RuleLaws.{Agree, effect-same}
 use Rattle.execution.proofs.MachineLaws.{Causal, Sound, Valid, effect-valid, next-sound}
 

@@ -2,9 +2,8 @@
 -- behind the last iteration, which stays as it is.
 -- Assumes nothing.
 use mathlib.Core.Path.{_≡_, refl}
-use mathlib.Core.List.{List, [], _∷_, _++_, map, flatMap, zipWith}
+use mathlib.Core.List.{List, [], _∷_, flatMap, zipWith}
 use Prim.Native.Nat.{ℕ}
-use lib.ListN.{getD}
 use Rattle.integers.specs.Lists.{any, all, first, place, firstsAfter, firsts, count, repeats, tab, greatest, firstFrom}
 use Rattle.integers.specs.Vector.{dots, plus, times, eqZ, eqV, isZeroV}
 use Rattle.integers.specs.Division.{floorDiv}
@@ -15,8 +14,8 @@ use Rattle.nest.specs.Sources.{sourceRank}
 use Rattle.partition.specs.Projection.{projection, divides, makesWhole, multiplier, groupSize, leastZ, step}
 use Rattle.partition.specs.Grouping.{pivot, clear, remainder, mayGroup, groupingVector, extend, chosenVectors, latest, coefficients, left, isCombination, frame, directions, difference, sameClass, coordinates, seeds, eqG, quotients, classNumber, group, blocks, blockNumber}
 use Rattle.partition.specs.Partition.{stepsOf, frameOf, groupsOf}
-use Rattle.mapping.specs.Mapping.{inOrder, greatestZ, direction, undealt, takesBit, withBit as dealtBit, noDirection, nextTurn, dealBit, dealBits, dealt, gray, partOf, joined, processor, directionsOf, processorsOf, crosses, isMessage, total, messageCount}
-use Rattle.sequential.specs.Sequential.{sourceValue, valueOf, loop, sequential, sum, weightedSum, ruleOf, valuesOf}
+use Rattle.mapping.specs.Mapping.{inOrder, greatestZ, direction, undealt, takesBit, withBit as dealtBit, noDirection, nextTurn, dealBit, dealBits, dealt, gray, partOf, joined, processor, directionsOf, processorsOf, crosses, isMessage}
+use Rattle.sequential.specs.Sequential.{sourceValue, valueOf, sum, weightedSum, ruleOf}
 use Rattle.planner.specs.Examples.{vector, listed}
 use Rattle.execution.specs.Rules.{every, better, least, Move, compute, deliver, Layout, taking, delivering, effect}
 use Rattle.execution.specs.Machine.{referenceAnswers, allowedCount}
