@@ -6,3 +6,4 @@ pub mod TableLaws
 pub mod Demand
 pub mod WordLaws
 pub mod ExampleRun
+pub mod BitLaws
