@@ -2,7 +2,7 @@
 -- Assumes nothing.
 use mathlib.Core.Path.{_≡_, refl, sym, ap, ap₂, subst, _∙_}
 use mathlib.Core.Bool.{Bool, true, false, _&&_, _||_}
-use mathlib.Core.Logic.{_≢_}
+use mathlib.Core.Logic.{_≢_, ⊎-elim}
 use mathlib.Core.Option.{Option, none, some}
 use Prim.Native.Nat.{ℕ, zero, suc, _+_, _*_, _/_, _%_, _^_, _≤_, _<_}
 use native.Mathlib.Nat.{le-trans, not-suc-le-zero, pow-succ', div-div-eq-div-mul, div-eq-of-lt}
@@ -11,7 +11,7 @@ use native.Mathlib.Omega.{arith}
 use lib.Dec.{ltb, eqb}
 use lib.Pow.{pow-mono}
 use borrow.Author.Tests.{ltb-true, ltb-false, eqb-true, eqb-false}
-use Rattle.integers.specs.Lists.{tab, tab-same, split, clash}
+use Rattle.integers.specs.Lists.{tab, tab-same, split, clash, and-true, or-true}
 use Rattle.mapping.specs.Mapping.{total}
 use Rattle.mapping.specs.Keys.{oneIf}
 use Rattle.mapping.proofs.Messages.{count-tab-more, count-none, total-tab-more, total-none}
@@ -36,18 +36,15 @@ both p q = rw (p, q) refl
 
 -- so the first does
 pub and-left : (a b : Bool) → (a && b) ≡ true → a ≡ true
-and-left true b e = refl
-and-left false b e = e
+and-left a b e = and-true a b e .0
 
 -- and the second
 pub and-right : (a b : Bool) → (a && b) ≡ true → b ≡ true
-and-right true b e = e
-and-right false b e = clash e refl
+and-right a b e = and-true a b e .1
 
 -- one of two passes
 pub or-cases : {C : Type 0} (a b : Bool) → (a || b) ≡ true → (a ≡ true → C) → (b ≡ true → C) → C
-or-cases true b e f g = f refl
-or-cases false b e f g = g e
+or-cases a b e f g = ⊎-elim f g (or-true a b e)
 
 -- two equalities
 pub and-eqb : (a b c d : ℕ) → (eqb a b && eqb c d) ≡ true → (a ≡ b) × (c ≡ d)

@@ -21,9 +21,11 @@ use Rattle.nest.proofs.Entries.{orElse-second, long-enough}
 use Rattle.mapping.specs.Keys.{oneIf}
 use Rattle.sequential.specs.Sequential.{Rule, sourceValue, valueOf, sequential}
 use Rattle.sequential.proofs.LoopLaws.{loop-length, loop-value}
+use Rattle.planner.specs.Plan.{noRoom}
+use Rattle.planner.proofs.PlanLaws.{long-here}
 use Rattle.execution.specs.Rules.{Move, Effect, refuse, iteration, message, answer, Layout, effect}
 use Rattle.execution.specs.Machine.{Machine, freshMachine, machineAfter, machineView, machineNext, machineRun, machineAnswers}
-use Rattle.execution.specs.Run.{State, bit, stateView, noRoom, moveRefusal, stateRefusal, moveEffect, moveAnswer, after, moveAfter, run, answers}
+use Rattle.execution.specs.Run.{State, bit, stateView, moveRefusal, stateRefusal, moveEffect, moveAnswer, after, moveAfter, run, answers}
 use Rattle.execution.specs.Claim.{Fresh, Holds}
 use Rattle.execution.proofs.Base.{eq?, yes-one, no-zero, byteOf, byte-same, byte-none, byte-more, bit-byte, bit-beyond}
 use Rattle.execution.proofs.RuleLaws.{Agree, effect-same}
@@ -67,12 +69,13 @@ pub no-refusal : (s : LoopNest) → refusal s ≡ 0 → (a b c d e : ℕ) → le
 unfolding moveRefusal
 no-refusal s ok a b c d e ha hb hc hd he =
     let n = length (pointsOf s) in
-    orElse-second (refusal s) (noRoom n a b c d e) ok
-    ∙ orElse-second (shortBuffer n a) (orElse (shortBuffer n b) (orElse (shortBuffer n c) (orElse (shortBuffer n d) (shortBuffer n e)))) (long-enough n a ha)
-    ∙ orElse-second (shortBuffer n b) (orElse (shortBuffer n c) (orElse (shortBuffer n d) (shortBuffer n e))) (long-enough n b hb)
-    ∙ orElse-second (shortBuffer n c) (orElse (shortBuffer n d) (shortBuffer n e)) (long-enough n c hc)
-    ∙ orElse-second (shortBuffer n d) (shortBuffer n e) (long-enough n d hd)
-    ∙ long-enough n e he
+    orElse-second (refusal s) (orElse (noRoom n a b c d) (shortBuffer n e)) ok ∙ orElse-second (noRoom n a b c d) (shortBuffer n e) room ∙ long-enough n e he
+  where
+    room : noRoom (length (pointsOf s)) a b c d ≡ 0
+    room =
+        let n = length (pointsOf s) in
+        long-here n a (orElse (shortBuffer n b) (orElse (shortBuffer n c) (shortBuffer n d))) ha ∙ long-here n b (orElse (shortBuffer n c) (shortBuffer n d)) hb
+        ∙ long-here n c (shortBuffer n d) hc ∙ long-enough n d hd
 
 -- so the rules decide
 pub move-rules : {Val : Type 0} (s : LoopNest) (L : Layout) (st : State Val) (mv : Move) → stateRefusal s L st ≡ 0 → moveEffect s L st mv ≡ effect s (stateView L st) mv

@@ -10,6 +10,7 @@ use Rattle.nest.specs.declared.LoopNest.{LoopNest}
 use Rattle.nest.specs.Points.{pointsOf}
 use Rattle.nest.specs.Refusals.{refusal, orElse, shortBuffer}
 use Rattle.sequential.specs.Sequential.{Rule, valueOf}
+use Rattle.planner.specs.Plan.{noRoom}
 use Rattle.execution.specs.Rules.{Move, Effect, refuse, iteration, message, answer, Layout, View, effect}
 
 -- for each iteration a value, a done byte (0 is not done) and a delivered byte
@@ -40,14 +41,11 @@ withBit st k i = record { values = st .values; done = st .done; delivered = set 
 
 -- ---- refusals before the rules: 2 to 13, then 14 for a buffer with fewer entries than there are iterations
 
--- 14 if one of five buffers has fewer than n entries, 0 otherwise
-abbrev pub noRoom : ℕ → ℕ → ℕ → ℕ → ℕ → ℕ → ℕ
-noRoom n steps processors values done delivered =
-    orElse (shortBuffer n steps) (orElse (shortBuffer n processors) (orElse (shortBuffer n values) (orElse (shortBuffer n done) (shortBuffer n delivered))))
-
 -- for a layout and a state of these lengths
 unfoldable pub moveRefusal : LoopNest → ℕ → ℕ → ℕ → ℕ → ℕ → ℕ
-moveRefusal s steps processors values done delivered = orElse (refusal s) (noRoom (length (pointsOf s)) steps processors values done delivered)
+moveRefusal s steps processors values done delivered =
+    let n = length (pointsOf s) in
+    orElse (refusal s) (orElse (noRoom n steps processors values done) (shortBuffer n delivered))
 
 -- for this layout and state
 abbrev pub stateRefusal : {Val : Type 0} → LoopNest → Layout → State Val → ℕ
