@@ -7,3 +7,4 @@ pub mod Demand
 pub mod WordLaws
 pub mod ExampleRun
 pub mod BitLaws
+pub mod FindingLaws

@@ -19,10 +19,10 @@ use Rattle.nest.specs.Sources.{sourceRank}
 use Rattle.mapping.specs.Mapping.{isMessage, total}
 use Rattle.mapping.specs.Keys.{oneIf}
 use Rattle.mapping.proofs.Messages.{count-most, total-most}
-use Rattle.execution.specs.Rules.{every, least, Move, compute, deliver, Effect, refuse, iteration, message, answer, Layout, View, stepIn, processorIn, waits, there, sourceDone, taking, effect}
+use Rattle.execution.specs.Rules.{every, least, Move, compute, deliver, Effect, refuse, iteration, message, answer, Layout, View, stepIn, processorIn, waits, there, sourceDone, taking, effect, ready}
 use Rattle.execution.specs.Machine.{Machine, freshMachine, machineAfter, machineView, machineAnswer, machineNext, machineRun, machineAnswers, countBelow, computedCount, deliveredCount, allowedCount}
 use Rattle.execution.proofs.Base.{opt, both, and-left, and-right, or-cases, and-eqb, sum-same, sum-more, sum-zero, count-same, count-more, count-all, count-zero, every-true, every-false, Least, least-none, least-some}
-use Rattle.execution.proofs.RuleLaws.{there-own, there-other, message-none, message-some, taking-ready, delivering-ready, ready, taken, compute-there, deliver-there, by-move}
+use Rattle.execution.proofs.RuleLaws.{there-own, there-other, message-none, message-some, taking-ready, delivering-ready, taken, compute-there, deliver-there, by-move}
 
 -- a source has a smaller rank and an earlier step, and each processor is one of the machine's
 pub record Causal (s : LoopNest) (L : Layout) : Type 0 where

@@ -16,7 +16,7 @@ use Rattle.nest.specs.Nest.{toℕ, countOf}
 use Rattle.nest.specs.Points.{pointsOf}
 use Rattle.nest.specs.Sources.{sourceRank}
 use Rattle.mapping.specs.Mapping.{crosses, isMessage}
-use Rattle.execution.specs.Rules.{every, least, Move, compute, deliver, Effect, refuse, iteration, message, View, stepIn, processorIn, waits, there, sourceDone, taking, delivering, effect}
+use Rattle.execution.specs.Rules.{every, least, Move, compute, deliver, Effect, refuse, iteration, message, View, stepIn, processorIn, waits, there, sourceDone, taking, ready, delivering, effect}
 use Rattle.execution.proofs.Base.{opt, every-same, least-some, least-same}
 
 -- ---- the tests
@@ -58,19 +58,15 @@ module _ (s : LoopNest) (v : View) where
   unfolding taking
   taking-waits p k t = rw (t, taking) refl
 
-  -- a message can be delivered, or not
-  abbrev pub ready : ℕ → ℕ → Bool
-  ready k i = isMessage s (v .layout .processors) k i && (sourceDone v (sourceRank s k i) && not (v .delivered k i))
-
-  -- where the source is no iteration it cannot
-  pub not-ready : (k i : ℕ) → sourceRank s k i ≡ none → ready k i ≡ false
+  -- where its source is no iteration a message cannot be delivered
+  pub not-ready : (k i : ℕ) → sourceRank s k i ≡ none → ready s v k i ≡ false
   not-ready k i q = ap (λ b. b && (sourceDone v (sourceRank s k i) && not (v .delivered k i))) (message-none s (v .layout .processors) k i q)
 
-  pub delivering-ready : (k i : ℕ) → ready k i ≡ true → delivering s v k i ≡ message k i
+  pub delivering-ready : (k i : ℕ) → ready s v k i ≡ true → delivering s v k i ≡ message k i
   unfolding delivering
   delivering-ready k i t = rw (t, delivering) refl
 
-  pub delivering-refused : (k i : ℕ) → ready k i ≡ false → delivering s v k i ≡ refuse 16
+  pub delivering-refused : (k i : ℕ) → ready s v k i ≡ false → delivering s v k i ≡ refuse 16
   unfolding delivering
   delivering-refused k i t = rw (t, delivering) refl
 
@@ -106,8 +102,8 @@ module _ (s : LoopNest) (v : View) where
       → ((p k : ℕ) → p < 2 ^ toℕ (s .cube) → taken p ≡ some k → every (λ i. there v p k i (sourceRank s k i)) (countOf s) ≡ false → C (compute p) (refuse 15))
       → ((p k : ℕ) → p < 2 ^ toℕ (s .cube) → taken p ≡ some k → every (λ i. there v p k i (sourceRank s k i)) (countOf s) ≡ true → C (compute p) (iteration k))
       → ((k i : ℕ) → (length (pointsOf s) ≤ k) ⊎ (countOf s ≤ i) → C (deliver k i) (refuse 18))
-      → ((k i : ℕ) → k < length (pointsOf s) → i < countOf s → ready k i ≡ false → C (deliver k i) (refuse 16))
-      → ((k i : ℕ) → k < length (pointsOf s) → i < countOf s → ready k i ≡ true → C (deliver k i) (message k i))
+      → ((k i : ℕ) → k < length (pointsOf s) → i < countOf s → ready s v k i ≡ false → C (deliver k i) (refuse 16))
+      → ((k i : ℕ) → k < length (pointsOf s) → i < countOf s → ready s v k i ≡ true → C (deliver k i) (message k i))
       → (mv : Move) → C mv (effect s v mv)
   by-move C c18 c17 c15 c0 d18 d16 d0 (compute p) = split (ltb p (2 ^ toℕ (s .cube)))
       (λ t. let h = ltb-true p (2 ^ toℕ (s .cube)) t in opt (taken p)
@@ -121,7 +117,7 @@ module _ (s : LoopNest) (v : View) where
       (λ u.
       let hk = ltb-true k (length (pointsOf s)) t in
       let hi = ltb-true i (countOf s) u in
-      split (ready k i)
+      split (ready s v k i)
       (λ e. subst (C (deliver k i)) (sym (deliver-there k i hk hi ∙ delivering-ready k i e)) (d0 k i hk hi e))
       (λ e. subst (C (deliver k i)) (sym (deliver-there k i hk hi ∙ delivering-refused k i e)) (d16 k i hk hi e)))
       (λ u. let h : (length (pointsOf s) ≤ k) ⊎ (countOf s ≤ i) = inr (ltb-false i (countOf s) u) in subst (C (deliver k i)) (sym (deliver-nowhere k i h)) (d18 k i h)))

@@ -16,10 +16,10 @@ use Rattle.nest.specs.Points.{pointsOf}
 use Rattle.nest.specs.Sources.{sourceRank}
 use Rattle.mapping.specs.Mapping.{isMessage}
 use Rattle.mapping.proofs.Theorems.{message-true, true-message}
-use Rattle.execution.specs.Rules.{every, Move, compute, deliver, Effect, refuse, iteration, message, View, stepIn, processorIn, waits, there, sourceDone, taking, effect}
+use Rattle.execution.specs.Rules.{every, Move, compute, deliver, Effect, refuse, iteration, message, View, stepIn, processorIn, waits, there, sourceDone, taking, effect, ready}
 use Rattle.execution.specs.Words.{Takes, Present, Absent, Sent, Says, no-processor, idle-processor, waiting, computes, no-place, out-of-turn, delivers}
 use Rattle.execution.proofs.Base.{eq?, opt, both, and-left, and-right, every-true, every-false, every-intro, every-refute, least-none, least-some, least-empty, least-unique}
-use Rattle.execution.proofs.RuleLaws.{there-own, there-other, taking-none, taking-ready, taking-waits, delivering-ready, delivering-refused, ready, taken, compute-there, compute-nowhere, deliver-there, deliver-nowhere, by-move}
+use Rattle.execution.proofs.RuleLaws.{there-own, there-other, taking-none, taking-ready, taking-waits, delivering-ready, delivering-refused, taken, compute-there, compute-nowhere, deliver-there, deliver-nowhere, by-move}
 
 module _ (s : LoopNest) (v : View) where
   -- an iteration on processor p that is not done

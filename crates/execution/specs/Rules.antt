@@ -92,10 +92,13 @@ unfoldable pub taking : LoopNest → View → ℕ → Option ℕ → Effect
 taking s v p none = refuse 17
 taking s v p (some k) = elim (every (λ i. there v p k i (sourceRank s k i)) (countOf s)) [ true ↦ iteration k | false ↦ refuse 15 ]
 
--- delivery of the message of an iteration along a dependence: 16 if it is no message, its source is not done, or it is delivered
+-- the message of an iteration along a dependence can be delivered: it is one, its source is done, and it is not delivered
+abbrev pub ready : LoopNest → View → ℕ → ℕ → Bool
+ready s v k i = isMessage s (v .layout .processors) k i && (sourceDone v (sourceRank s k i) && not (v .delivered k i))
+
+-- its delivery: 16 if it cannot be
 unfoldable pub delivering : LoopNest → View → ℕ → ℕ → Effect
-delivering s v k i =
-    elim (isMessage s (v .layout .processors) k i && (sourceDone v (sourceRank s k i) && not (v .delivered k i))) [ true ↦ message k i | false ↦ refuse 16 ]
+delivering s v k i = elim (ready s v k i) [ true ↦ message k i | false ↦ refuse 16 ]
 
 -- a move: 18 where there is no such processor, rank or dependence. A compute takes the processor's iteration that is not done, least in step, then in rank
 unfoldable pub effect : LoopNest → View → Move → Effect
