@@ -8,3 +8,4 @@ pub mod WordLaws
 pub mod ExampleRun
 pub mod BitLaws
 pub mod FindingLaws
+pub mod EntryLaws
