@@ -225,5 +225,8 @@ module _ (s : LoopNest) (steps processors values done delivered : List ℕ) (mv 
     unfolding moveEffect
     effect-ruled e = rw (e, moveEffect) refl
 
-    pub made-move : room ≡ 0 → (r : Answer) (st′ : State ℕ) → Done s st (effect s (viewIn steps processors done delivered) mv) r st′ → Made r st′
-    made-move e r st′ d = made-by (effect s (viewIn steps processors done delivered) mv) r st′ (effect-ruled (behind ∙ e)) d
+    -- on the move that the request names
+    pub made-move : room ≡ 0 → (mv₀ : Move) → mv ≡ mv₀ → (r : Answer) (st′ : State ℕ) → Done s st (effect s (viewIn steps processors done delivered) mv₀) r st′ → Made r st′
+    made-move e mv₀ q r st′ d =
+        let v = viewIn steps processors done delivered in
+        made-by (effect s v mv₀) r st′ (effect-ruled (behind ∙ e) ∙ ap (effect s v) q) d

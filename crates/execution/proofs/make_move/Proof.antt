@@ -7,8 +7,9 @@ use Rattle.nest.specs.declared.Inspection.{Inspection}
 use Rattle.nest.specs.Points.{pointsOf}
 use Rattle.nest.specs.Refusals.{refusal}
 use Rattle.nest.proofs.Entries.{iterations-are}
-use Rattle.execution.specs.Entry.{moveOf}
-use Rattle.execution.proofs.EntryLaws.{refused-nest, room, short-buffer, long-buffers, made-move}
+use Rattle.execution.specs.Rules.{compute, deliver}
+use Rattle.execution.specs.Entry.{stateIn, moveOf}
+use Rattle.execution.proofs.EntryLaws.{refused-nest, short-buffer, long-buffers, made-move}
 use Rattle.execution.proofs.make_move.Statement.{statement}
 use Rattle.execution.proofs.make_move.Tie as tie
 
@@ -83,7 +84,16 @@ same-length-3 : tie.Need-same-length-3
 same-length-3 c = search needs
 
 returns-3 : tie.Need-returns-3
-returns-3 c = ?
+returns-3 c =
+    let t = c .before .before .before .before .before .before .before .before .before .before .before in
+    let e = t .before .before in
+    let i = e .before in
+    let a = start i .args in
+    let f = c .before .before .before .before .compute in
+    let g = c .before .before .before .before .before .before .before .before .before .what .given in
+    made-move (a .s) (a .steps .now) (a .processors .now) (a .values .now) (a .done .now) (a .delivered .now) (moveOf (a .request .what)) (accepted e) (i .inspect .result .iterations) (count e)
+    (sym (t .before .check-buffers .ensures) ∙ t .if2 .left) (compute (g .0 .0)) (ap moveOf (g .1)) (f .result) (stateIn (f .last .1 .1 .1 .1 .1 .0) (f .last .1 .1 .1 .1 .1 .1 .0) (a .delivered .now))
+    (f .ensures .0, f .ensures .1)
 
 same-length-4 : tie.Need-same-length-4
 same-length-4 c = search needs
@@ -92,7 +102,16 @@ same-length-5 : tie.Need-same-length-5
 same-length-5 c = search needs
 
 returns-4 : tie.Need-returns-4
-returns-4 c = ?
+returns-4 c =
+    let t = c .before .before .before .before .before .before .before .before in
+    let e = t .before .before in
+    let i = e .before in
+    let a = start i .args in
+    let f = c .before .before .deliver in
+    let g = c .before .before .before .before .before .before .what2 .given in
+    made-move (a .s) (a .steps .now) (a .processors .now) (a .values .now) (a .done .now) (a .delivered .now) (moveOf (a .request .what)) (accepted e) (i .inspect .result .iterations) (count e)
+    (sym (t .before .check-buffers .ensures) ∙ t .if2 .left) (deliver (g .0 .0) (g .0 .1 .0)) (ap moveOf (g .1)) (f .result) (stateIn (a .values .now) (a .done .now) (f .last .1 .1 .1 .1 .1 .1 .0))
+    (f .ensures .0 (a .steps .now) (a .values .now), f .ensures .1 (a .steps .now) (a .values .now))
 
 pub make-move-spec : {M : Type 1} → statement M
 make-move-spec =
