@@ -9,3 +9,4 @@ pub mod ExampleRun
 pub mod BitLaws
 pub mod FindingLaws
 pub mod EntryLaws
+pub mod EntryRuns
