@@ -33,7 +33,7 @@ pub long-here : (n a k : ℕ) → n ≤ a → orElse (shortBuffer n a) k ≡ k
 long-here n a k h = orElse-second (shortBuffer n a) k (long-enough n a h)
 
 -- a table that is not short is long
-enough : (n a : ℕ) → shortBuffer n a ≡ 0 → n ≤ a
+pub enough : (n a : ℕ) → shortBuffer n a ≡ 0 → n ≤ a
 enough n a e = go (below-or-not a n)
   where
     go : (a < n) ⊎ (n ≤ a) → n ≤ a

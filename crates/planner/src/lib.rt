@@ -44,7 +44,7 @@ fn refused(refusal: u8) -> Planning
 }
 
 // 14 if one of four tables has fewer entries than there are iterations, 0 otherwise.
-fn check_room(n: usize, steps: usize, blocks: usize, processors: usize, values: usize) -> u8
+pub fn check_room(n: usize, steps: usize, blocks: usize, processors: usize, values: usize) -> u8
     ensures { λ r. ⌜ r ≡ noRoom n steps blocks processors values ⌝ }
 {
     if steps < n {

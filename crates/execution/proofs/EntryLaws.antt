@@ -1,0 +1,232 @@
+-- The ways out of a compute, of a delivery and of the entry that makes a move: what is answered and what the buffers hold, over plain lists and numbers.
+-- Assumes nothing.
+use mathlib.Core.Path.{_≡_, refl, sym, ap, ap₂, _∙_}
+use mathlib.Core.Bool.{Bool, true, false, not, _&&_}
+use mathlib.Core.List.{List, []}
+use mathlib.Core.Logic.{_≢_, inl, inr}
+use mathlib.Core.Option.{Option, none, some}
+use Prim.Native.Nat.{ℕ, _+_, _^_, _≤_, _<_}
+use native.Mathlib.Omega.{arith}
+use borrow.Author.Tests.{ne-eqb, not-true}
+use lib.ListN.{length, getD, set}
+use Rattle.nest.specs.declared.LoopNest.{LoopNest}
+use Rattle.nest.specs.Nest.{toℕ, countOf}
+use Rattle.nest.specs.Points.{pointsOf}
+use Rattle.nest.specs.Refusals.{refusal, orElse, shortBuffer}
+use Rattle.nest.specs.Sources.{sourceRank}
+use Rattle.nest.proofs.Entries.{orElse-first, orElse-second, orElse-zero}
+use Rattle.mapping.specs.Mapping.{isMessage}
+use Rattle.sequential.specs.Sequential.{ruleOf, valueOf}
+use Rattle.planner.specs.Plan.{noRoom}
+use Rattle.planner.proofs.PlanLaws.{enough, all-enough}
+use Rattle.execution.specs.declared.Answer.{Answer}
+use Rattle.execution.specs.declared.Answer.the-variants.{Computed, Delivered, Refused}
+use Rattle.execution.specs.Rules.{every, Move, compute, deliver, Effect, refuse, iteration, message, answer, Layout, View, there, sourceDone, ready, taking, effect}
+use Rattle.execution.specs.Run.{State, bit, withValue, withBit, moveRefusal, stateRefusal, moveEffect, moveAnswer, after, moveAfter}
+use Rattle.execution.specs.Entry.{layoutIn, stateIn, viewIn, rankOr, numberOf, answerOf}
+use Rattle.execution.proofs.Base.{and-left, and-right, every-same}
+use Rattle.execution.proofs.RuleLaws.{taking-none, taking-ready, taking-waits, delivering-ready, delivering-refused, compute-there, compute-nowhere, deliver-there, deliver-nowhere}
+use Rattle.execution.proofs.FindingLaws.{takenOf, taken-none, taken-some}
+
+-- ---- by the effect
+
+-- the number of an answer is that of the effect
+pub number-answer : (s : LoopNest) (values : List ℕ) (x : Effect) → numberOf (answerOf s values x) ≡ answer x
+unfolding answerOf
+number-answer s values (refuse a) = refl
+number-answer s values (iteration k) = refl
+number-answer s values (message k i) = refl
+
+-- the answer r and the state st′ after a move on st are those of the effect x
+abbrev pub Done : LoopNest → State ℕ → Effect → Answer → State ℕ → Type 0
+Done s st x r st′ = (r ≡ answerOf s (st .values) x) × (st′ ≡ after (ruleOf s) s st x)
+
+-- an effect may be given by another name
+by-effect : (s : LoopNest) (st : State ℕ) (x y : Effect) (r : Answer) (st′ : State ℕ) → x ≡ y → Done s st y r st′ → Done s st x r st′
+by-effect s st x y r st′ e d = (d .0 ∙ sym (ap (answerOf s (st .values)) e), d .1 ∙ sym (ap (after (ruleOf s) s st) e))
+
+-- a refused move
+refused : (s : LoopNest) (st : State ℕ) (a : ℕ) → Done s st (refuse a) (Refused a) st
+unfolding answerOf
+refused s st a = (refl, refl)
+
+-- a compute that wrote the value x
+computed : (s : LoopNest) (values done delivered : List ℕ) (k x : ℕ) → x ≡ valueOf (ruleOf s) s values k
+    → Done s (stateIn values done delivered) (iteration k) (Computed (record { rank = k; value = x })) (stateIn (set values k x) (set done k 1) delivered)
+unfolding answerOf
+computed s values done delivered k x e =
+    (ap (λ z. Computed (record { rank = k; value = z })) e, ap (λ z. stateIn (set values k z) (set done k 1) delivered) e)
+
+-- a delivery that left the byte x
+delivers : (s : LoopNest) (values done delivered : List ℕ) (k i x : ℕ) → x ≡ getD delivered k 0 + 2 ^ i
+    → Done s (stateIn values done delivered) (message k i) (Delivered (record { rank = k; dependence = i })) (stateIn values done (set delivered k x))
+unfolding answerOf
+delivers s values done delivered k i x e = (refl, ap (λ z. stateIn values done (set delivered k z)) e)
+
+-- ---- the ways out of a compute on processor p
+module _ (s : LoopNest) (steps processors values done delivered : List ℕ) (n : ℕ) (count : n ≡ length (pointsOf s)) (p : ℕ) where
+  -- what the move looks at, and what it comes to
+  abbrev view : View
+  view = viewIn steps processors done delivered
+
+  abbrev state : State ℕ
+  state = stateIn values done delivered
+
+  abbrev pub Computes : Answer → State ℕ → Type 0
+  Computes r st′ = Done s state (effect s view (compute p)) r st′
+
+  -- there is no such processor
+  pub no-processor : (c : ℕ) → c ≡ 2 ^ toℕ (s .cube) → c ≤ p → Computes (Refused 18) state
+  no-processor c e h = by-effect s state (effect s view (compute p)) (refuse 18) (Refused 18) state (compute-nowhere s view p (omega arith)) (refused s state 18)
+
+  module _ (c k : ℕ) (cube : c ≡ 2 ^ toℕ (s .cube)) (h : p < c) (e : k ≡ rankOr n (takenOf steps processors done n p n)) where
+    -- the processor has no iteration left
+    pub idle : n ≤ k → Computes (Refused 17) state
+    idle l =
+        by-effect s state (effect s view (compute p)) (refuse 17) (Refused 17) state
+        (compute-there s view p (omega arith) ∙ ap (taking s view p) (ap (takenOf steps processors done n p) (sym count) ∙ taken-none steps processors done n p k e l) ∙ taking-none s view p)
+        (refused s state 17)
+
+    -- the iteration that it takes
+    takes : k < n → effect s view (compute p) ≡ taking s view p (some k)
+    takes l = compute-there s view p (omega arith) ∙ ap (taking s view p) (ap (takenOf steps processors done n p) (sym count) ∙ taken-some steps processors done n p k e l)
+
+    -- steps are no part of the test of sources
+    same-there : (i : ℕ) (o : Option ℕ) → there (viewIn [] processors done delivered) p k i o ≡ there view p k i o
+    same-there i none = refl
+    same-there i (some j) = refl
+
+    all-same : (b : Bool) → b ≡ every (λ i. there (viewIn [] processors done delivered) p k i (sourceRank s k i)) (countOf s) → every (λ i. there view p k i (sourceRank s k i)) (countOf s) ≡ b
+    all-same b q = sym (q ∙ every-same (λ i. there (viewIn [] processors done delivered) p k i (sourceRank s k i)) (λ i. there view p k i (sourceRank s k i)) (countOf s) (λ i l. same-there i (sourceRank s k i)))
+
+    -- a source is not there
+    pub waiting : (b : Bool) → k < n → b ≡ every (λ i. there (viewIn [] processors done delivered) p k i (sourceRank s k i)) (countOf s) → b ≡ false → Computes (Refused 15) state
+    waiting b l q f =
+        by-effect s state (effect s view (compute p)) (refuse 15) (Refused 15) state (takes l ∙ taking-waits s view p k (all-same b q ∙ f)) (refused s state 15)
+
+    -- the iteration is computed
+    pub computes : (b : Bool) (x : ℕ) → k < n → b ≡ every (λ i. there (viewIn [] processors done delivered) p k i (sourceRank s k i)) (countOf s) → b ≡ true
+        → x ≡ valueOf (ruleOf s) s values k → Computes (Computed (record { rank = k; value = x })) (stateIn (set values k x) (set done k 1) delivered)
+    computes b x l q t v =
+        by-effect s state (effect s view (compute p)) (iteration k) (Computed (record { rank = k; value = x })) (stateIn (set values k x) (set done k 1) delivered)
+        (takes l ∙ taking-ready s view p k (all-same b q ∙ t)) (computed s values done delivered k x v)
+
+-- ---- the ways out of a delivery
+module _ (s : LoopNest) (processors done delivered : List ℕ) (n : ℕ) (count : n ≡ length (pointsOf s)) (k i : ℕ) where
+  -- what the move comes to, whatever the steps and the values are
+  abbrev pub Delivers : Answer → List ℕ → Type 0
+  Delivers r delivered′ =
+      ((steps values : List ℕ) → r ≡ answerOf s values (effect s (viewIn steps processors done delivered) (deliver k i)))
+      × ((steps values : List ℕ) → stateIn values done delivered′ ≡ after (ruleOf s) s (stateIn values done delivered) (effect s (viewIn steps processors done delivered) (deliver k i)))
+
+  -- by the effect
+  delivery-by : (x : Effect) (r : Answer) (delivered′ : List ℕ) → ((steps : List ℕ) → effect s (viewIn steps processors done delivered) (deliver k i) ≡ x)
+      → ((values : List ℕ) → Done s (stateIn values done delivered) x r (stateIn values done delivered′)) → Delivers r delivered′
+  delivery-by x r delivered′ e d = (
+    λ steps values. by-effect s (stateIn values done delivered) (effect s (viewIn steps processors done delivered) (deliver k i)) x r (stateIn values done delivered′) (e steps) (d values) .0,
+    λ steps values. by-effect s (stateIn values done delivered) (effect s (viewIn steps processors done delivered) (deliver k i)) x r (stateIn values done delivered′) (e steps) (d values) .1,
+  )
+
+  -- there is no such rank
+  pub no-rank : n ≤ k → Delivers (Refused 18) delivered
+  no-rank h = delivery-by (refuse 18) (Refused 18) delivered (λ steps. deliver-nowhere s (viewIn steps processors done delivered) k i (inl (omega arith))) (λ values. refused s (stateIn values done delivered) 18)
+
+  -- there is no such dependence
+  pub no-dependence : (m : ℕ) → m ≡ countOf s → m ≤ i → Delivers (Refused 18) delivered
+  no-dependence m e h = delivery-by (refuse 18) (Refused 18) delivered (λ steps. deliver-nowhere s (viewIn steps processors done delivered) k i (inr (omega arith))) (λ values. refused s (stateIn values done delivered) 18)
+
+  -- steps are no part of the test of a message
+  same-source : (steps : List ℕ) (o : Option ℕ) → sourceDone (viewIn [] processors done delivered) o ≡ sourceDone (viewIn steps processors done delivered) o
+  same-source steps none = refl
+  same-source steps (some j) = refl
+
+  same-ready : (steps : List ℕ) (b : Bool) → b ≡ ready s (viewIn [] processors done delivered) k i → ready s (viewIn steps processors done delivered) k i ≡ b
+  same-ready steps b q = sym (q ∙ ap (λ d. isMessage s processors k i && (d && not (bit i (getD delivered k 0)))) (same-source steps (sourceRank s k i)))
+
+  module _ (m : ℕ) (b : Bool) (dependences : m ≡ countOf s) (hk : k < n) (hi : i < m) (q : b ≡ ready s (viewIn [] processors done delivered) k i) where
+    -- the message cannot be delivered
+    pub out-of-turn : b ≡ false → Delivers (Refused 16) delivered
+    out-of-turn f =
+        delivery-by (refuse 16) (Refused 16) delivered
+        (λ steps. let v = viewIn steps processors done delivered in deliver-there s v k i (omega arith) (omega arith) ∙ delivering-refused s v k i (same-ready steps b q ∙ f))
+        (λ values. refused s (stateIn values done delivered) 16)
+
+    -- it is delivered
+    pub delivery : (x : ℕ) → b ≡ true → x ≡ getD delivered k 0 + 2 ^ i → Delivers (Delivered (record { rank = k; dependence = i })) (set delivered k x)
+    delivery x t e =
+        delivery-by (message k i) (Delivered (record { rank = k; dependence = i })) (set delivered k x)
+        (λ steps. let v = viewIn steps processors done delivered in deliver-there s v k i (omega arith) (omega arith) ∙ delivering-ready s v k i (same-ready steps b q ∙ t))
+        (λ values. delivers s values done delivered k i x e)
+
+    -- and then its bit is 0
+    pub bit-free : b ≡ true → bit i (getD delivered k 0) ≡ false
+    bit-free t = not-true (bit i (getD delivered k 0)) (and-right (sourceDone (viewIn [] processors done delivered) (sourceRank s k i)) (not (bit i (getD delivered k 0)))
+        (and-right (isMessage s processors k i) (sourceDone (viewIn [] processors done delivered) (sourceRank s k i) && not (bit i (getD delivered k 0))) (sym q ∙ t)))
+
+-- ---- the ways out of the entry
+module _ (s : LoopNest) (steps processors values done delivered : List ℕ) (mv : Move) where
+  -- the layout and the state that the entry finds
+  abbrev L : Layout
+  L = layoutIn steps processors
+
+  abbrev st : State ℕ
+  st = stateIn values done delivered
+
+  -- what its contract says of its answer and of the state that it leaves
+  abbrev pub Made : Answer → State ℕ → Type 0
+  Made r st′ = (r ≡ answerOf s values (moveEffect s L st mv)) × ((numberOf r ≡ moveAnswer s L st mv) × (st′ ≡ moveAfter (ruleOf s) s L st mv))
+
+  -- by the effect
+  made-by : (x : Effect) (r : Answer) (st′ : State ℕ) → moveEffect s L st mv ≡ x → Done s st x r st′ → Made r st′
+  made-by x r st′ e d =
+      let f = by-effect s st (moveEffect s L st mv) x r st′ e d in
+      (f .0, (ap numberOf (f .0) ∙ number-answer s values (moveEffect s L st mv), f .1))
+
+  -- refused before the rules
+  effect-refused : stateRefusal s L st ≢ 0 → moveEffect s L st mv ≡ refuse (stateRefusal s L st)
+  unfolding moveEffect
+  effect-refused h = rw (ne-eqb (stateRefusal s L st) 0 h, moveEffect) refl
+
+  refused-before : (a : ℕ) → stateRefusal s L st ≡ a → a ≢ 0 → Made (Refused a) st
+  refused-before a e h = made-by (refuse a) (Refused a) st (effect-refused (λ z. h (sym e ∙ z)) ∙ ap refuse e) (refused s st a)
+
+  -- the nest is refused
+  pub refused-nest : (a : ℕ) → a ≡ refusal s → a ≢ 0 → Made (Refused a) st
+  unfolding moveRefusal
+  refused-nest a e h =
+      let n = length (pointsOf s) in
+      refused-before a
+      (orElse-first (refusal s) (orElse (noRoom n (length steps) (length processors) (length values) (length done)) (shortBuffer n (length delivered))) (λ z. h (e ∙ z)) ∙ sym e) h
+
+  module _ (ok : refusal s ≡ 0) (n : ℕ) (count : n ≡ length (pointsOf s)) where
+    -- it lies with the buffers
+    abbrev pub room : ℕ
+    room = orElse (noRoom n (length steps) (length processors) (length values) (length done)) (shortBuffer n (length delivered))
+
+    behind : stateRefusal s L st ≡ room
+    unfolding moveRefusal
+    behind =
+        let z = length (pointsOf s) in
+        orElse-second (refusal s) (orElse (noRoom z (length steps) (length processors) (length values) (length done)) (shortBuffer z (length delivered))) ok
+        ∙ ap (λ m. orElse (noRoom m (length steps) (length processors) (length values) (length done)) (shortBuffer m (length delivered))) (sym count)
+
+    -- a buffer is too short
+    pub short-buffer : (a : ℕ) → a ≡ room → a ≢ 0 → Made (Refused a) st
+    short-buffer a e h = refused-before a (behind ∙ sym e) h
+
+    -- none is
+    pub long-buffers : room ≡ 0 → ((n ≤ length steps) × (n ≤ length processors) × (n ≤ length values) × (n ≤ length done)) × (n ≤ length delivered)
+    long-buffers e =
+        let z = orElse-zero (noRoom n (length steps) (length processors) (length values) (length done)) (shortBuffer n (length delivered)) e in
+        (all-enough n (length steps) (length processors) (length values) (length done) (z .0), enough n (length delivered) (z .1))
+
+    -- and the rules decide
+    effect-ruled : stateRefusal s L st ≡ 0 → moveEffect s L st mv ≡ effect s (viewIn steps processors done delivered) mv
+    unfolding moveEffect
+    effect-ruled e = rw (e, moveEffect) refl
+
+    -- on the move that the request names
+    pub made-move : room ≡ 0 → (mv₀ : Move) → mv ≡ mv₀ → (r : Answer) (st′ : State ℕ) → Done s st (effect s (viewIn steps processors done delivered) mv₀) r st′ → Made r st′
+    made-move e mv₀ q r st′ d =
+        let v = viewIn steps processors done delivered in
+        made-by (effect s v mv₀) r st′ (effect-ruled (behind ∙ e) ∙ ap (effect s v) q) d

@@ -1,0 +1,175 @@
+-- What a move finds in lent tables: a law for each way out of the functions of src/finding.rt, over plain lists and numbers.
+-- Assumes nothing.
+use mathlib.Core.Path.{_≡_, refl, sym, ap, ap₂, _∙_}
+use mathlib.Core.Bool.{Bool, true, false, not, _&&_}
+use mathlib.Core.List.{List, []}
+use mathlib.Core.Logic.{_≢_}
+use mathlib.Core.Option.{Option, none, some}
+use Prim.Native.Nat.{ℕ, _+_, _*_, _/_, _%_, _^_, _≤_, _<_}
+use native.Mathlib.Nat.{one-mul}
+use native.Mathlib.Omega.{arith}
+use borrow.Author.Tests.{lt-ltb, le-ltb, eq-eqb, ne-eqb}
+use lib.Dec.{eqb, ltb}
+use lib.IntN.{ℤ}
+use lib.ListN.{length, getD}
+use lib.Pow.{pow-mono}
+use Rattle.nest.specs.declared.LoopNest.{LoopNest}
+use Rattle.nest.specs.Nest.{part, padded, depthOf, countOf, maxDepth}
+use Rattle.nest.specs.Points.{pointsOf, rank, source}
+use Rattle.nest.specs.Refusals.{dependence}
+use Rattle.nest.specs.Sources.{sourceRank}
+use Rattle.sequential.proofs.SourceLaws.{source-found, source-none}
+use Rattle.mapping.specs.Mapping.{isMessage}
+use Rattle.execution.specs.Rules.{every, better, least, View, stepIn, waits, there, sourceDone, ready}
+use Rattle.execution.specs.Run.{bit}
+use Rattle.execution.specs.Entry.{viewIn, rankOr}
+use Rattle.execution.proofs.Base.{opt, every-refute, better-less, better-not, least-some}
+use Rattle.execution.proofs.BitLaws.{every-more, least-more}
+use Rattle.execution.proofs.RuleLaws.{there-own, there-other, message-some, not-ready}
+
+-- ---- the iteration that a processor takes
+
+module _ (steps processors done : List ℕ) (n p : ℕ) where
+  -- what the search sees
+  abbrev seen : View
+  seen = viewIn steps processors done []
+
+  -- the iteration taken, of the first k
+  abbrev pub takenOf : ℕ → Option ℕ
+  takenOf k = least (waits seen p) (stepIn seen) k
+
+  module _ (k best : ℕ) where
+    -- r is the better of the best so far and k
+    abbrev pub Better : ℕ → Type 0
+    Better r = (o : Option ℕ) → best ≡ rankOr n o → ((j : ℕ) → o ≡ some j → j < n) → r ≡ rankOr n (better (stepIn seen) k (waits seen p k) o)
+
+    -- k does not wait
+    kept : waits seen p k ≡ false → Better best
+    unfolding better
+    kept t o e l = rw t e
+
+    -- it is done
+    pub kept-done : getD done k 0 ≢ 0 → Better best
+    kept-done h = kept (rw (ne-eqb (getD done k 0) 0 h) refl)
+
+    -- it is on another processor
+    pub kept-elsewhere : getD done k 0 ≡ 0 → getD processors k 0 ≢ p → Better best
+    kept-elsewhere h g = kept (rw (eq-eqb (getD done k 0) 0 h, ne-eqb (getD processors k 0) p g) refl)
+
+    -- it waits
+    waiting : getD done k 0 ≡ 0 → getD processors k 0 ≡ p → waits seen p k ≡ true
+    waiting h g = rw (eq-eqb (getD done k 0) 0 h, eq-eqb (getD processors k 0) p g) refl
+
+    -- and is the first to wait
+    pub taken-first : getD done k 0 ≡ 0 → getD processors k 0 ≡ p → best ≡ n → Better k
+    taken-first h g q o e l = rw (waiting h g) (go o e l)
+      where
+        go : (o : Option ℕ) → best ≡ rankOr n o → ((j : ℕ) → o ≡ some j → j < n) → k ≡ rankOr n (better (stepIn seen) k true o)
+        go none e l = unfold better in refl
+        go (some j) e l = absurd (omega (arith, l j refl))
+
+    -- or its step is less than that of the best
+    pub taken-less : getD done k 0 ≡ 0 → getD processors k 0 ≡ p → best ≢ n → getD steps k 0 < getD steps best 0 → Better k
+    taken-less h g q t o e l = rw (waiting h g) (go o e)
+      where
+        go : (o : Option ℕ) → best ≡ rankOr n o → k ≡ rankOr n (better (stepIn seen) k true o)
+        go none e = absurd (q e)
+        go (some j) e = sym (ap (rankOr n) (better-less (stepIn seen) k j (ap (λ b. ltb (getD steps k 0) (getD steps b 0)) (sym e) ∙ lt-ltb (getD steps k 0) (getD steps best 0) t)))
+
+    -- or not
+    pub kept-least : getD done k 0 ≡ 0 → getD processors k 0 ≡ p → best ≢ n → getD steps best 0 ≤ getD steps k 0 → Better best
+    kept-least h g q t o e l = rw (waiting h g) (go o e)
+      where
+        go : (o : Option ℕ) → best ≡ rankOr n o → best ≡ rankOr n (better (stepIn seen) k true o)
+        go none e = absurd (q e)
+        go (some j) e = e ∙ sym (ap (rankOr n) (better-not (stepIn seen) k j (ap (λ b. ltb (getD steps k 0) (getD steps b 0)) (sym e) ∙ le-ltb (getD steps k 0) (getD steps best 0) t)))
+
+  -- what is taken is below the bound
+  pub taken-below : (k j : ℕ) → takenOf k ≡ some j → j < k
+  taken-below k j e = least-some (waits seen p) (stepIn seen) k j e .below
+
+  -- and so at most n
+  rank-most : (k : ℕ) → k ≤ n → rankOr n (takenOf k) ≤ n
+  rank-most k h = opt (takenOf k) (λ e. rw e (omega arith)) (λ j e. rw e (omega (arith, taken-below k j e)))
+
+  -- the search's invariant: the best of the first k
+  abbrev pub Found : ℕ → ℕ → Type 0
+  Found best k = (k ≤ n) × (best ≤ n) × (best ≡ rankOr n (takenOf k))
+
+  -- one iteration more
+  pub found-next : (k best r : ℕ) → k < n → best ≡ rankOr n (takenOf k) → Better k best r → Found r (k + 1)
+  found-next k best r h e b =
+      let q : r ≡ rankOr n (takenOf (k + 1)) = b (takenOf k) e (λ j g. let l = taken-below k j g in omega arith) ∙ ap (rankOr n) (sym (least-more (waits seen p) (stepIn seen) k)) in
+      let m = rank-most (k + 1) (omega arith) in
+      (omega arith, omega arith, q)
+
+  -- all of them
+  pub found-end : (k best : ℕ) → k ≤ n → n ≤ k → best ≡ rankOr n (takenOf k) → best ≡ rankOr n (takenOf n)
+  found-end k best h g e = let q : k ≡ n = omega arith in e ∙ ap (λ z. rankOr n (takenOf z)) q
+
+  -- the search's answer as an iteration, or as none
+  pub taken-none : (k : ℕ) → k ≡ rankOr n (takenOf n) → n ≤ k → takenOf n ≡ none
+  taken-none k e h = opt (takenOf n) (λ q. q) (λ j q. absurd (let l = taken-below n j q in let z : k ≡ j = e ∙ ap (rankOr n) q in omega arith))
+
+  pub taken-some : (k : ℕ) → k ≡ rankOr n (takenOf n) → k < n → takenOf n ≡ some k
+  taken-some k e h = opt (takenOf n) (λ q. absurd (let z : k ≡ n = e ∙ ap (rankOr n) q in omega arith)) (λ j q. let z : j ≡ k = sym (e ∙ ap (rankOr n) q) in q ∙ ap some z)
+
+-- ---- sources, by the rank j that `sequential::source_at` answers at the iteration's point
+
+module _ (s : LoopNest) (k i j : ℕ) (point : List ℤ) (n : ℕ) (count : n ≡ length (pointsOf s)) (h : k < n) (at : point ≡ padded maxDepth (getD (pointsOf s) k []))
+    (e : j ≡ rank (pointsOf s) (source (part point 0 (depthOf s)) (dependence s i))) (processors done delivered : List ℕ) where
+  -- what is seen
+  abbrev view : View
+  view = viewIn [] processors done delivered
+
+  -- the source is an iteration, or not
+  found : j < n → sourceRank s k i ≡ some j
+  found l = source-found s k i j point (omega arith) at e (omega arith)
+
+  missing : n ≤ j → sourceRank s k i ≡ none
+  missing l = source-none s k i j point (omega arith) at e (omega arith)
+
+  -- one that is no iteration is there
+  pub there-none : (p : ℕ) → n ≤ j → true ≡ there view p k i (sourceRank s k i)
+  there-none p l = sym (ap (there view p k i) (missing l))
+
+  -- one on the processor is there if it is done
+  pub there-done : (p : ℕ) (b : Bool) → j < n → getD processors j 0 ≡ p → b ≡ not (eqb (getD done j 0) 0) → b ≡ there view p k i (sourceRank s k i)
+  there-done p b l g q = q ∙ sym (ap (there view p k i) (found l) ∙ there-own view p k i j g)
+
+  -- one on another if its message is delivered
+  pub there-delivered : (p : ℕ) (b : Bool) → j < n → getD processors j 0 ≢ p → b ≡ bit i (getD delivered k 0) → b ≡ there view p k i (sourceRank s k i)
+  there-delivered p b l g q = q ∙ sym (ap (there view p k i) (found l) ∙ there-other view p k i j g)
+
+  -- ---- messages
+
+  -- a source that is no iteration sends none
+  pub ready-none : n ≤ j → false ≡ ready s view k i
+  ready-none l = sym (not-ready s view k i (missing l))
+
+  -- of one that is
+  ready-is : j < n → ready s view k i ≡ (not (eqb (getD processors j 0) (getD processors k 0)) && (not (eqb (getD done j 0) 0) && not (bit i (getD delivered k 0))))
+  ready-is l =
+      ap₂ (λ (a b : Bool). a && (b && not (bit i (getD delivered k 0)))) (message-some s processors k i j (found l)) (ap (sourceDone view) (found l))
+
+  -- it is on the same processor
+  pub ready-same : j < n → getD processors j 0 ≡ getD processors k 0 → false ≡ ready s view k i
+  ready-same l g = sym (ready-is l ∙ rw (eq-eqb (getD processors j 0) (getD processors k 0) g) refl)
+
+  -- it is not done
+  pub ready-missing : j < n → getD processors j 0 ≢ getD processors k 0 → getD done j 0 ≡ 0 → false ≡ ready s view k i
+  ready-missing l g d = sym (ready-is l ∙ rw (ne-eqb (getD processors j 0) (getD processors k 0) g, eq-eqb (getD done j 0) 0 d) refl)
+
+  -- its bit decides
+  pub ready-bit : (b : Bool) → j < n → getD processors j 0 ≢ getD processors k 0 → getD done j 0 ≢ 0 → b ≡ bit i (getD delivered k 0) → not b ≡ ready s view k i
+  ready-bit b l g d q = ap not q ∙ sym (ready-is l ∙ rw (ne-eqb (getD processors j 0) (getD processors k 0) g, ne-eqb (getD done j 0) 0 d) refl)
+
+-- ---- the test of all sources
+
+-- one more passes
+pub every-next : (t : ℕ → Bool) (i : ℕ) (b : Bool) → every t i ≡ true → b ≡ t i → b ≡ true → every t (i + 1) ≡ true
+every-next t i b e q h = every-more t i ∙ ap₂ _&&_ e (sym q ∙ h)
+
+-- one does not
+pub every-stops : (t : ℕ → Bool) (m i : ℕ) (b : Bool) → i < m → b ≡ t i → b ≡ false → false ≡ every t m
+every-stops t m i b l q h = sym (every-refute t m i l (sym q ∙ h))

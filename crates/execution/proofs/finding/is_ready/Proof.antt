@@ -1,0 +1,59 @@
+-- `is_ready` meets its contract: a law for each way out. Assumes nothing.
+use borrow.Author.Needs.{needs}
+use native.Mathlib.Omega.{arith}
+use Rattle.nest.proofs.Accepted.{count-is}
+use Rattle.sequential.proofs.SourceLaws.{array-point}
+use Rattle.execution.proofs.FindingLaws.{ready-none, ready-same, ready-missing, ready-bit}
+use Rattle.execution.proofs.finding.is_ready.Statement.{statement}
+use Rattle.execution.proofs.finding.is_ready.Tie as tie
+
+point-of-requires : tie.Need-point-of-requires
+point-of-requires c κs = search needs
+
+source-at-requires : tie.Need-source-at-requires
+source-at-requires c κs = let t = c .before .before .before .before in
+    (t .pre .0 .0, array-point (t .args .s) (t .args .k) (c .point-of .result) (omega (arith, t .pre .0 .1, t .pre .0 .2)) (c .point-of .ensures), t .pre .0 .3)
+
+returns : tie.Need-returns
+returns c = search ready-none
+
+shared-slice-read-if2 : tie.Need-shared-slice-read-if2
+shared-slice-read-if2 c = search needs
+
+shared-slice-read-if2-2 : tie.Need-shared-slice-read-if2-2
+shared-slice-read-if2-2 c = search needs
+
+returns-2 : tie.Need-returns-2
+returns-2 c = search ready-same
+
+shared-slice-read-if3 : tie.Need-shared-slice-read-if3
+shared-slice-read-if3 c = search needs
+
+returns-3 : tie.Need-returns-3
+returns-3 c = search ready-missing
+
+shared-slice-read-bit-set : tie.Need-shared-slice-read-bit-set
+shared-slice-read-bit-set c = search needs
+
+bit-set-requires : tie.Need-bit-set-requires
+bit-set-requires c κs = let t = c .before .before .before .before .before .before .before .before .before .before .before .before in
+    omega (arith, t .pre .0 .3, count-is (t .args .s) (t .pre .0 .0) .1)
+
+returns-4 : tie.Need-returns-4
+returns-4 c = search ready-bit
+
+pub is-ready-spec : {M : Type 1} → statement M
+is-ready-spec =
+    tie.close
+    (tie.spec
+    point-of-requires
+    source-at-requires
+    returns
+    shared-slice-read-if2
+    shared-slice-read-if2-2
+    returns-2
+    shared-slice-read-if3
+    returns-3
+    shared-slice-read-bit-set
+    bit-set-requires
+    returns-4)

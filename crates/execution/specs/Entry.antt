@@ -1,0 +1,63 @@
+-- The entry that makes a move, in terms of the run: lent buffers as layout, state and view; the move that a request asks for; and the document's number and values for
+-- each case of the answer.
+-- Assumes nothing.
+use mathlib.Core.Path.{_≡_}
+use mathlib.Core.List.{List, [], _∷_}
+use mathlib.Core.Option.{Option, none, some}
+use Prim.Native.Nat.{ℕ}
+use Rattle.nest.specs.declared.LoopNest.{LoopNest}
+use Rattle.sequential.specs.Sequential.{ruleOf, valueOf}
+use Rattle.execution.specs.declared.Move as asked
+use Rattle.execution.specs.declared.Move.the-variants.{Compute, Deliver}
+use Rattle.execution.specs.declared.Answer.{Answer}
+use Rattle.execution.specs.declared.Answer.the-variants.{Computed, Delivered, Refused}
+use Rattle.execution.specs.Rules.{Move, compute, deliver, Effect, refuse, iteration, message, Layout, View}
+use Rattle.execution.specs.Run.{State, stateView, moveEffect, moveAnswer, moveAfter}
+
+-- ---- lent buffers
+
+-- the step and processor tables
+abbrev pub layoutIn : List ℕ → List ℕ → Layout
+layoutIn steps processors = record { steps = steps; processors = processors }
+
+-- the state's three buffers
+abbrev pub stateIn : List ℕ → List ℕ → List ℕ → State ℕ
+stateIn values done delivered = record { values = values; done = done; delivered = delivered }
+
+-- what a move looks at: the values are no part of it
+abbrev pub viewIn : List ℕ → List ℕ → List ℕ → List ℕ → View
+viewIn steps processors done delivered = stateView (layoutIn steps processors) (stateIn [] done delivered)
+
+-- a rank, or n where there is none
+abbrev pub rankOr : ℕ → Option ℕ → ℕ
+rankOr n none = n
+rankOr n (some k) = k
+
+-- ---- requests and answers
+
+-- the move that is asked for (document 01: a card's compute, or a delivery that names a rank and an offset number)
+abbrev pub moveOf : asked.Move → Move
+moveOf (Compute processor) = compute processor
+moveOf (Deliver rank dependence) = deliver rank dependence
+
+-- the document's number of an answer: 0 for a move that is made
+abbrev pub numberOf : Answer → ℕ
+numberOf (Computed c) = 0
+numberOf (Delivered d) = 0
+numberOf (Refused number) = number
+
+-- the answer to a move of this effect, and the values that it carries: the rank and the value written, the message delivered, or the number of the refusal
+unfoldable pub answerOf : LoopNest → List ℕ → Effect → Answer
+answerOf s values (refuse number) = Refused number
+answerOf s values (iteration k) = Computed (record { rank = k; value = valueOf (ruleOf s) s values k })
+answerOf s values (message k i) = Delivered (record { rank = k; dependence = i })
+
+-- ---- calls of the entry
+
+-- A list of calls of `make_move`, each with the same nest and tables and with the state as the call before left it: the premises are what its contract says of the answer, of
+-- its number and of the three buffers.
+pub data EntryCalls (s : LoopNest) (L : Layout) : State ℕ → List asked.Move → List Answer → State ℕ → Type 0 where
+  no-entry : {st : State ℕ} → EntryCalls s L st [] [] st
+  entry : {st st′ last : State ℕ} {what : asked.Move} {whats : List asked.Move} {r : Answer} {rs : List Answer}
+      → r ≡ answerOf s (st .values) (moveEffect s L st (moveOf what)) → numberOf r ≡ moveAnswer s L st (moveOf what) → st′ ≡ moveAfter (ruleOf s) s L st (moveOf what)
+      → EntryCalls s L st′ whats rs last → EntryCalls s L st (what ∷ whats) (r ∷ rs) last

@@ -1,0 +1,207 @@
+// The run of a loop nest, move by move: a processor computes its next iteration, or a message is delivered. specs/ has the rules, the reference machine
+// and the claim about a whole list of moves; proofs/ has its proof.
+mod finding;
+
+use nest::LoopNest;
+use nest::SHORT_BUFFER;
+ghost use mathlib.Core.Path.{_≡_};
+ghost use mathlib.Core.List.{List};
+ghost use Prim.Native.Nat.{ℕ, _≤_, _^_};
+ghost use lib.ListN.{length};
+ghost use Rattle.nest.specs.Nest.{toℕ, maxCube};
+ghost use Rattle.nest.specs.Points.{pointsOf};
+ghost use Rattle.nest.specs.Refusals.{refusal, orElse, shortBuffer};
+ghost use Rattle.sequential.specs.Sequential.{ruleOf};
+ghost use Rattle.planner.specs.Plan.{noRoom};
+ghost use Rattle.execution.specs.Rules.{compute, deliver, effect};
+ghost use Rattle.execution.specs.Run.{after, moveEffect, moveAnswer, moveAfter};
+ghost use Rattle.execution.specs.Entry.{layoutIn, stateIn, viewIn, moveOf, numberOf, answerOf};
+
+// waiting: compute, a source is not there
+pub const WAITING: u8 = 15;
+// out of turn: delivery, no message, its source not computed, or already delivered
+pub const OUT_OF_TURN: u8 = 16;
+// idle card: compute, the processor has no iteration left
+pub const IDLE_PROCESSOR: u8 = 17;
+// no such place: no such processor, rank or dependence
+pub const NO_SUCH_PLACE: u8 = 18;
+
+// A move: a processor computes its next iteration, or the message of an iteration along a dependence is delivered. Any numbers may be asked for.
+pub enum Move {
+    Compute { processor: usize },
+    Deliver { rank: usize, dependence: usize },
+}
+
+// What a caller asks for.
+pub struct Request {
+    pub what: Move,
+}
+
+// The iteration that a compute took, and the value that it wrote.
+pub struct Computation {
+    pub rank: usize,
+    pub value: u16,
+}
+
+// The message that was delivered: to which iteration, along which dependence.
+pub struct Delivery {
+    pub rank: usize,
+    pub dependence: usize,
+}
+
+// What a move is answered: what it did, or the number of its refusal, 2 to 18.
+pub enum Answer {
+    Computed(Computation),
+    Delivered(Delivery),
+    Refused(u8),
+}
+
+// How many processors there are: 2^c, at most 64.
+fn processors_in(s: LoopNest) -> usize
+    requires { ⌜ refusal s ≡ 0 ⌝ }
+    ensures { λ r. ⌜ (r ≡ 2 ^ toℕ (s .cube)) × (r ≤ 2 ^ maxCube) ⌝ }
+{
+    let c = nest::to_size(s.cube);
+    1usize << c
+}
+
+// 14 if one of the five buffers of a move has fewer entries than there are iterations, 0 otherwise.
+fn check_buffers(
+    n: usize,
+    steps: usize,
+    processors: usize,
+    values: usize,
+    done: usize,
+    delivered: usize,
+) -> u8
+    ensures { λ r. ⌜ r ≡ orElse (noRoom n steps processors values done) (shortBuffer n delivered) ⌝ }
+{
+    let room = planner::check_room(n, steps, processors, values, done);
+    if room != 0 {
+        return room;
+    }
+    if delivered < n { SHORT_BUFFER } else { 0 }
+}
+
+// A compute on processor p, of an accepted nest of n iterations: the iteration that it takes gets its value and its done byte, if its sources are there.
+fn compute(
+    s: LoopNest,
+    n: usize,
+    p: usize,
+    steps: &[u32],
+    processors: &[u8],
+    values: &mut [u16],
+    done: &mut [u8],
+    delivered: &[u8],
+) -> Answer
+    requires { ⌜ (refusal s ≡ 0) × (n ≡ length (pointsOf s)) ⌝ }
+    requires { ⌜ (n ≤ length (now steps)) × (n ≤ length (now processors)) × (n ≤ length (now values)) × (n ≤ length (now done)) × (n ≤ length (now delivered)) ⌝ }
+    ensures { λ r. ⌜ r ≡ answerOf s (now (values .entry)) (effect s (viewIn (now (steps .entry)) (now (processors .entry)) (now (done .entry)) (now (delivered .entry))) (compute p)) ⌝ }
+    ensures { λ r. ⌜ stateIn (now (values .exit)) (now (done .exit)) (now (delivered .entry)) ≡ after (ruleOf s) s (stateIn (now (values .entry)) (now (done .entry)) (now (delivered .entry))) (effect s (viewIn (now (steps .entry)) (now (processors .entry)) (now (done .entry)) (now (delivered .entry))) (compute p)) ⌝ }
+{
+    if processors_in(s) <= p {
+        return Answer::Refused(NO_SUCH_PLACE);
+    }
+    let processor = p as u8;
+    let k = finding::next_iteration(steps, processors, done, n, processor);
+    if n <= k {
+        return Answer::Refused(IDLE_PROCESSOR);
+    }
+    if !finding::all_there(s, n, processors, done, delivered, processor, k) {
+        return Answer::Refused(WAITING);
+    }
+    let value = sequential::value_at(s, n, values, k);
+    values[k] = value;
+    done[k] = 1;
+    Answer::Computed(Computation {
+        rank: k,
+        value: value,
+    })
+}
+
+// A delivery of the message of iteration k along dependence i, of an accepted nest of n iterations: its bit is set, if it is a message that can be delivered.
+fn deliver(
+    s: LoopNest,
+    n: usize,
+    k: usize,
+    i: usize,
+    processors: &[u8],
+    done: &[u8],
+    delivered: &mut [u8],
+) -> Answer
+    requires { ⌜ (refusal s ≡ 0) × (n ≡ length (pointsOf s)) ⌝ }
+    requires { ⌜ (n ≤ length (now processors)) × (n ≤ length (now done)) × (n ≤ length (now delivered)) ⌝ }
+    ensures { λ r. ⌜ ((steps values : List ℕ) → r ≡ answerOf s values (effect s (viewIn steps (now (processors .entry)) (now (done .entry)) (now (delivered .entry))) (deliver k i))) ⌝ }
+    ensures { λ r. ⌜ ((steps values : List ℕ) → stateIn values (now (done .entry)) (now (delivered .exit)) ≡ after (ruleOf s) s (stateIn values (now (done .entry)) (now (delivered .entry))) (effect s (viewIn steps (now (processors .entry)) (now (done .entry)) (now (delivered .entry))) (deliver k i))) ⌝ }
+{
+    if n <= k {
+        return Answer::Refused(NO_SUCH_PLACE);
+    }
+    if nest::to_size(s.count) <= i {
+        return Answer::Refused(NO_SUCH_PLACE);
+    }
+    if !finding::is_ready(s, n, processors, done, delivered, k, i) {
+        return Answer::Refused(OUT_OF_TURN);
+    }
+    delivered[k] = finding::with_bit(delivered[k], i);
+    Answer::Delivered(Delivery {
+        rank: k,
+        dependence: i,
+    })
+}
+
+// Makes the move that is asked for, on the step and processor tables of a plan and on the state's three buffers, all of any content. Answers what the move did, or the number of
+// its refusal, 2 to 14, then 18, 17, 15 or 16, with no buffer changed.
+pub fn make_move(
+    s: LoopNest,
+    request: Request,
+    steps: &[u32],
+    processors: &[u8],
+    values: &mut [u16],
+    done: &mut [u8],
+    delivered: &mut [u8],
+) -> Answer
+    ensures { λ r. ⌜ r ≡ answerOf s (now (values .entry)) (moveEffect s (layoutIn (now (steps .entry)) (now (processors .entry))) (stateIn (now (values .entry)) (now (done .entry)) (now (delivered .entry))) (moveOf (request .what))) ⌝ }
+    ensures { λ r. ⌜ numberOf r ≡ moveAnswer s (layoutIn (now (steps .entry)) (now (processors .entry))) (stateIn (now (values .entry)) (now (done .entry)) (now (delivered .entry))) (moveOf (request .what)) ⌝ }
+    ensures { λ r. ⌜ stateIn (now (values .exit)) (now (done .exit)) (now (delivered .exit)) ≡ moveAfter (ruleOf s) s (layoutIn (now (steps .entry)) (now (processors .entry))) (stateIn (now (values .entry)) (now (done .entry)) (now (delivered .entry))) (moveOf (request .what)) ⌝ }
+{
+    let known = nest::inspect(s);
+    let refusal = known.refusal;
+    let n = known.iterations;
+    if refusal != 0 {
+        return Answer::Refused(refusal);
+    }
+    let room = check_buffers(
+        n,
+        steps.len(),
+        processors.len(),
+        values.len(),
+        done.len(),
+        delivered.len(),
+    );
+    if room != 0 {
+        return Answer::Refused(room);
+    }
+    let what = request.what;
+    match what {
+        Move::Compute { processor } => compute(
+            s,
+            n,
+            processor,
+            steps,
+            processors,
+            values,
+            done,
+            delivered,
+        ),
+        Move::Deliver { rank, dependence } => deliver(
+            s,
+            n,
+            rank,
+            dependence,
+            processors,
+            done,
+            delivered,
+        ),
+    }
+}
