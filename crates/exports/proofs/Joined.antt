@@ -1,5 +1,5 @@
 -- The parts of a nest joined, and the answers to a call on numbers. Assumes nothing.
-use mathlib.Core.Path.{_≡_, refl, sym, ap, _∙_}
+use mathlib.Core.Path.{_≡_, refl, sym, ap, ap₂, _∙_}
 use mathlib.Core.List.{List, [], _∷_}
 use Prim.Native.Nat.{ℕ, zero, suc}
 use native.Mathlib.Omega.{arith}
@@ -10,10 +10,15 @@ use Rattle.nest.specs.declared.LoopNest.{LoopNest}
 use Rattle.nest.specs.Nest.{part}
 use Rattle.partition.specs.Partition.{stepsOf, blocksOf}
 use Rattle.mapping.specs.Mapping.{processorsOf}
-use Rattle.sequential.specs.Sequential.{fillRefusal, filled, valuesOf}
+use Rattle.sequential.specs.Sequential.{fillRefusal, filled, ruleOf, valuesOf}
 use Rattle.planner.specs.declared.Planning.{Planning}
 use Rattle.planner.specs.Plan.{planRefusal, planAnswer, tableAfter}
-use Rattle.exports.specs.Exports.{nestIn, countsIn}
+use Rattle.execution.specs.declared.Move as asked
+use Rattle.execution.specs.declared.Answer.{Answer}
+use Rattle.execution.specs.Rules.{Layout}
+use Rattle.execution.specs.Run.{State, moveEffect, moveAnswer, moveAfter}
+use Rattle.execution.specs.Entry.{moveOf, numberOf, answerOf}
+use Rattle.exports.specs.Exports.{nestIn, countsIn, madeIn}
 
 -- a nest made of the parts of numbers
 pub joined-nest : (xs : List ℤ) (depth count cube boundary : ℤ) (lower upper time dependences weights : List ℤ)
@@ -53,3 +58,16 @@ module _ (s n : LoopNest) (a : Planning) (steps blocks processors values : List 
 -- a table, where the nest is known
 pub table-from : (f : LoopNest → List ℕ) (s n : LoopNest) (k : ℕ) (old new : List ℕ) → s ≡ n → new ≡ tableAfter k (f s) old → new ≡ tableAfter k (f n) old
 table-from f s n k old new e p = p ∙ ap (λ (z : LoopNest). tableAfter k (f z) old) e
+
+-- a move on a nest that is known, by a request that is known
+pub move-from : (s n : LoopNest) (what known : asked.Move) (L : Layout) (st st′ : State ℕ) (r : Answer) (k : ℕ) (made : List ℕ) → s ≡ n → what ≡ known
+    → r ≡ answerOf s (st .values) (moveEffect s L st (moveOf what)) → numberOf r ≡ moveAnswer s L st (moveOf what) → st′ ≡ moveAfter (ruleOf s) s L st (moveOf what)
+    → k ≡ numberOf r → made ≡ madeIn r
+    → (k ≡ moveAnswer n L st (moveOf known)) × ((made ≡ madeIn (answerOf n (st .values) (moveEffect n L st (moveOf known)))) × (st′ ≡ moveAfter (ruleOf n) n L st (moveOf known)))
+move-from s n what known L st st′ r k made e q answer number state kq mq = (
+  kq ∙ number ∙ ap₂ (λ (z : LoopNest) (w : asked.Move). moveAnswer z L st (moveOf w)) e q,
+  (
+    mq ∙ ap madeIn (answer ∙ ap₂ (λ (z : LoopNest) (w : asked.Move). answerOf z (st .values) (moveEffect z L st (moveOf w))) e q),
+    state ∙ ap₂ (λ (z : LoopNest) (w : asked.Move). moveAfter (ruleOf z) z L st (moveOf w)) e q,
+  ),
+)

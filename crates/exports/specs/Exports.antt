@@ -1,11 +1,17 @@
--- A nest and the counts of a plan as numbers in a row, for callers in other languages. Assumes nothing.
+-- A nest, the counts of a plan, a move and what it did as numbers in a row, for callers in other languages. Assumes nothing.
+use mathlib.Core.Bool.{true, false}
 use mathlib.Core.List.{List, [], _∷_}
 use Prim.Native.Nat.{ℕ}
+use lib.Dec.{eqb}
 use lib.IntN.{ℤ, pos}
 use lib.ListN.{getD}
 use Rattle.nest.specs.declared.LoopNest.{LoopNest}
 use Rattle.nest.specs.Nest.{part}
 use Rattle.planner.specs.declared.Planning.{Planning}
+use Rattle.execution.specs.declared.Move.{Move}
+use Rattle.execution.specs.declared.Move.the-variants.{Compute, Deliver}
+use Rattle.execution.specs.declared.Answer.{Answer}
+use Rattle.execution.specs.declared.Answer.the-variants.{Computed, Delivered, Refused}
 
 -- the nest that numbers are, in the order of its fields
 unfoldable pub nestIn : List ℤ → LoopNest
@@ -15,3 +21,13 @@ nestIn xs =
 -- the counts of an answer, in the order of its fields
 unfoldable pub countsIn : Planning → List ℕ
 countsIn a = a .iterations ∷ a .steps ∷ a .blocks ∷ a .processors ∷ a .messages ∷ []
+
+-- the move that is asked for: kind 0 is a compute on a processor, any other a delivery for a rank along a dependence
+unfoldable pub moveIn : ℕ → ℕ → ℕ → Move
+moveIn kind a b = elim (eqb kind 0) [ true ↦ Compute a | false ↦ Deliver a b ]
+
+-- what an answer carries: the rank and the value of an iteration that was computed, the rank and the dependence number of a message that was delivered; zeros where refused
+unfoldable pub madeIn : Answer → List ℕ
+madeIn (Computed c) = c .rank ∷ c .value ∷ []
+madeIn (Delivered d) = d .rank ∷ d .dependence ∷ []
+madeIn (Refused number) = 0 ∷ 0 ∷ []

@@ -1,4 +1,4 @@
-// The entries `plan` and `fill` for callers in C and Rust, as a static library. A nest is lent as its 45 numbers in the order of LoopNest's fields, which
+// The entries `plan`, `fill` and `make_move` for callers in C and Rust, as a static library. A nest is lent as its 45 numbers in the order of LoopNest's fields, which
 // is how C lays out a struct of them:
 //
 //     struct rowlock_nest {
@@ -7,6 +7,9 @@
 //         int64_t dependences[24]; /* component k of dependence i at place i * 3 + k */
 //         int64_t boundary, weights[8];
 //     };
+use execution::Answer;
+use execution::Move;
+use execution::Request;
 use nest::LoopNest;
 ghost use mathlib.Core.Path.{_≡_};
 ghost use Prim.Native.Nat.{_+_, _≤_};
@@ -14,9 +17,11 @@ ghost use lib.ListN.{length};
 ghost use Rattle.nest.specs.Nest.{part};
 ghost use Rattle.partition.specs.Partition.{stepsOf, blocksOf};
 ghost use Rattle.mapping.specs.Mapping.{processorsOf};
-ghost use Rattle.sequential.specs.Sequential.{valuesOf, fillRefusal, filled};
+ghost use Rattle.sequential.specs.Sequential.{valuesOf, ruleOf, fillRefusal, filled};
 ghost use Rattle.planner.specs.Plan.{planRefusal, planAnswer, tableAfter};
-ghost use Rattle.exports.specs.Exports.{nestIn, countsIn};
+ghost use Rattle.execution.specs.Run.{moveEffect, moveAnswer, moveAfter};
+ghost use Rattle.execution.specs.Entry.{layoutIn, stateIn, moveOf, numberOf, answerOf};
+ghost use Rattle.exports.specs.Exports.{nestIn, countsIn, moveIn, madeIn};
 
 // How many numbers a nest has.
 const NUMBERS: usize = 45;
@@ -102,4 +107,78 @@ pub extern "C" fn rowlock_plan(
         answer.messages,
     ];
     answer.refusal
+}
+
+// The move that numbers ask for.
+fn move_in(kind: usize, first: usize, second: usize) -> Move
+    ensures { λ r. ⌜ r ≡ moveIn kind first second ⌝ }
+{
+    if kind == 0 {
+        return Move::Compute { processor: first };
+    }
+    Move::Deliver {
+        rank: first,
+        dependence: second,
+    }
+}
+
+// The number of an answer: 0 for a move that is made.
+fn number_of(answer: Answer) -> u8
+    ensures { λ r. ⌜ r ≡ numberOf answer ⌝ }
+{
+    match answer {
+        Answer::Computed(c) => 0,
+        Answer::Delivered(d) => 0,
+        Answer::Refused(number) => number,
+    }
+}
+
+// What an answer carries.
+fn made_in(answer: Answer) -> [usize; 2]
+    ensures { λ r. ⌜ r ≡ madeIn answer ⌝ }
+{
+    match answer {
+        Answer::Computed(c) => [c.rank, c.value as usize],
+        Answer::Delivered(d) => [d.rank, d.dependence],
+        Answer::Refused(number) => [0, 0],
+    }
+}
+
+// Makes a move on the tables of a plan and on a state, all of any content: kind 0 is a compute on processor `first`, any other a delivery for rank `first` along dependence number `second`.
+// Answers 0, or the number of the refusal, 2 to 18, with no buffer of the state changed. `made` has the rank and the value of the iteration computed, or the rank and the dependence
+// number of the message delivered; zeros where refused.
+//
+//     uint8_t rowlock_move(const struct rowlock_nest *nest, size_t kind, size_t first, size_t second, const uint32_t *steps, size_t steps_length,
+//                          const uint8_t *processors, size_t processors_length, uint16_t *values, size_t values_length, uint8_t *done, size_t done_length,
+//                          uint8_t *delivered, size_t delivered_length, size_t made[2]);
+#[no_mangle]
+pub extern "C" fn rowlock_move(
+    numbers: &[i64; NUMBERS],
+    kind: usize,
+    first: usize,
+    second: usize,
+    steps: &[u32],
+    processors: &[u8],
+    values: &mut [u16],
+    done: &mut [u8],
+    delivered: &mut [u8],
+    made: &mut [usize; 2],
+) -> u8
+    ensures { λ r. ⌜ r ≡ moveAnswer (nestIn (now (numbers .entry))) (layoutIn (now (steps .entry)) (now (processors .entry))) (stateIn (now (values .entry)) (now (done .entry)) (now (delivered .entry))) (moveOf (moveIn kind first second)) ⌝ }
+    ensures { λ r. ⌜ now (made .exit) ≡ madeIn (answerOf (nestIn (now (numbers .entry))) (now (values .entry)) (moveEffect (nestIn (now (numbers .entry))) (layoutIn (now (steps .entry)) (now (processors .entry))) (stateIn (now (values .entry)) (now (done .entry)) (now (delivered .entry))) (moveOf (moveIn kind first second)))) ⌝ }
+    ensures { λ r. ⌜ stateIn (now (values .exit)) (now (done .exit)) (now (delivered .exit)) ≡ moveAfter (ruleOf (nestIn (now (numbers .entry)))) (nestIn (now (numbers .entry))) (layoutIn (now (steps .entry)) (now (processors .entry))) (stateIn (now (values .entry)) (now (done .entry)) (now (delivered .entry))) (moveOf (moveIn kind first second)) ⌝ }
+{
+    let what = move_in(kind, first, second);
+    let request = Request { what: what };
+    let answer = execution::make_move(
+        nest_in(numbers),
+        request,
+        steps,
+        processors,
+        values,
+        done,
+        delivered,
+    );
+    *made = made_in(answer);
+    number_of(answer)
 }
