@@ -21,5 +21,9 @@ pub mod lists;
 pub mod nests;
 pub mod paces;
 pub mod requests;
+#[cfg(test)]
+mod rules;
+#[cfg(test)]
+mod self_test;
 pub mod starts;
 pub mod suite;

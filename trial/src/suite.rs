@@ -103,24 +103,64 @@ impl Report {
 
 /// Tries all lists of a seed on an entry.
 pub fn try_all(entry: &dyn Entry, seed: u64, sizes: Sizes) -> Report {
+    try_until(entry, seed, sizes, |_| false)
+}
+
+/// Tries the lists of a seed, nest by nest, until the report is enough.
+pub fn try_until(
+    entry: &dyn Entry,
+    seed: u64,
+    sizes: Sizes,
+    is_enough: impl Fn(&Report) -> bool,
+) -> Report {
+    let accepted = (0..sizes.accepted).map(|number| (Sort::Accepted, number));
+    let full = (0..sizes.full).map(|number| (Sort::Full, number));
+    let refused = (0..sizes.refused).map(|number| (Sort::Refused, number));
     let mut report = Report::default();
-    let random_for = |sort: u64, number: u64| {
-        Random::new(Random::new(seed).bits() ^ Random::new(!(3 * number + sort)).bits())
-    };
-    for number in 0..sizes.accepted {
-        let mut random = random_for(0, number);
-        let nest = nests::accepted(&mut random, number);
-        try_accepted(entry, &mut random, number, &nest, &mut report);
-    }
-    for number in 0..sizes.full {
-        let mut random = random_for(1, number);
-        let nest = nests::full(&mut random);
-        try_accepted(entry, &mut random, number, &nest, &mut report);
-    }
-    for number in 0..sizes.refused {
-        try_refused(entry, &mut random_for(2, number), number, &mut report);
+    for (sort, number) in refused.chain(accepted).chain(full) {
+        if is_enough(&report) {
+            break;
+        }
+        try_nest(entry, seed, sort, number, &mut report);
     }
     report
+}
+
+/// What a nest is made as.
+#[derive(Clone, Copy)]
+enum Sort {
+    Accepted,
+    Full,
+    Refused,
+}
+
+/// Tries the lists of the nest with the given number among those of a sort.
+fn try_nest(entry: &dyn Entry, seed: u64, sort: Sort, number: u64, report: &mut Report) {
+    let own = Random::new(!(3 * number + sort as u64)).bits();
+    let mut random = Random::new(Random::new(seed).bits() ^ own);
+    match sort {
+        Sort::Accepted => {
+            let (nest, plan) = accepted_with_plan(&mut random, number);
+            try_accepted(entry, &mut random, number, &nest, plan, report);
+        }
+        Sort::Full => {
+            let nest = nests::full(&mut random);
+            try_accepted(entry, &mut random, number, &nest, Plan::new(&nest), report);
+        }
+        Sort::Refused => try_refused(entry, &mut random, number, report),
+    }
+}
+
+/// An accepted nest with its plan. Two of three have a message for every fourth iteration at least.
+fn accepted_with_plan(random: &mut Random, number: u64) -> (LoopNest, Plan) {
+    for kind in number.. {
+        let nest = nests::accepted(random, kind);
+        let plan = Plan::new(&nest);
+        if number % 3 == 0 || 4 * plan.mapping.messages.len() >= plan.iterations.count() {
+            return (nest, plan);
+        }
+    }
+    unreachable!("the kinds come round without end")
 }
 
 /// An accepted nest with all that its lists need.
@@ -205,10 +245,10 @@ fn try_accepted(
     random: &mut Random,
     number: u64,
     nest: &LoopNest,
+    plan: Plan,
     report: &mut Report,
 ) {
     let numbers = nests::numbers_of(random, nest);
-    let plan = Plan::new(nest);
     let places = Places::of_plan(nest, &plan);
     let subject = Accepted { entry, nest, numbers, judge: Judge::new(nest), plan, places };
     let mut machine = ReferenceMachine::new(nest);
