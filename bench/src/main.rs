@@ -20,7 +20,7 @@ fn l2(extents: &[i64; 3]) -> LoopNest {
     LoopNest::new(extents, &[1, 1, 1], &[&[0, 1, 0], &[1, 0, 0], &[0, 0, 1]], 6)
 }
 
-/// A nest whose chosen projections span a coarse lattice, so that few iterations share a class.
+/// A nest whose chosen projections span a coarse lattice, so that few iterations share a class: at 16 x 16 x 16 it has 4035 classes.
 fn many_classes(extents: &[i64; 3]) -> LoopNest {
     LoopNest::new(extents, &[16, 15, 13], &[&[16, -15, 0], &[13, 0, -15]], 6)
 }
@@ -62,9 +62,8 @@ fn random_nest(random: &mut Random) -> LoopNest {
     nest
 }
 
-/// Both planners on one nest: whether all answers are equal, and whether it is accepted.
-fn agree(nest: &LoopNest) -> (bool, bool) {
-    let entries = 4100;
+/// Both planners on one nest, with tables of so many entries: whether all answers are equal, and whether it is accepted.
+fn agree(nest: &LoopNest, entries: [usize; 4]) -> (bool, bool) {
     let mut ours = Tables::new(entries);
     let answer = proved::plan(nest, &mut ours);
     let mut same = true;
@@ -72,10 +71,9 @@ fn agree(nest: &LoopNest) -> (bool, bool) {
         let mut theirs = Tables::new(entries);
         same &= plain::plan(nest, &mut theirs, lookup) == answer && theirs == ours;
     }
-    let mut filled = vec![77; entries];
-    same &= proved::fill(nest, &mut filled) == answer && filled == ours.values;
-    let mut filled = vec![77; entries];
-    same &= plain::fill(nest, &mut filled) == answer && filled == ours.values;
+    let mut ours = vec![77; entries[3]];
+    let mut theirs = ours.clone();
+    same &= proved::fill(nest, &mut ours) == plain::fill(nest, &mut theirs) && ours == theirs;
     (same, answer == 0)
 }
 
@@ -85,7 +83,11 @@ fn compare(nests: usize) -> (usize, usize) {
     let mut accepted = 0;
     for _ in 0..nests {
         let nest = random_nest(&mut random);
-        let (same, good) = agree(&nest);
+        let mut entries = [4100; 4];
+        if random.between(0, 3) == 0 {
+            entries[random.between(0, 3) as usize] = random.between(0, 200) as usize;
+        }
+        let (same, good) = agree(&nest, entries);
         assert!(same, "the planners differ on {nest:?}");
         accepted += good as usize;
     }
@@ -112,8 +114,8 @@ fn keep(answer: u8) {
 
 /// Times on one nest: proved plan, plain plan by search, plain plan by hash, proved fill, plain fill.
 fn times(nest: &LoopNest, rounds: usize) -> (usize, Vec<f64>) {
-    assert_eq!(agree(nest), (true, true), "the planners differ on {nest:?}");
-    let mut tables: Vec<Tables> = (0..5).map(|_| Tables::new(4096)).collect();
+    assert_eq!(agree(nest, [4100; 4]), (true, true), "the planners differ on {nest:?}");
+    let mut tables: Vec<Tables> = (0..5).map(|_| Tables::new([4096; 4])).collect();
     let [a, b, c, d, e] = &mut tables[..] else { unreachable!() };
     let least = least_times(
         rounds,
@@ -131,7 +133,7 @@ fn times(nest: &LoopNest, rounds: usize) -> (usize, Vec<f64>) {
 fn main() {
     let quick = std::env::args().nth(1).as_deref() == Some("quick");
     let scale = if quick { 1 } else { 10 };
-    let (nests, accepted) = compare(300);
+    let (nests, accepted) = compare(1000);
     println!("equal tables and counts on {nests} nests, {accepted} of them accepted\n");
 
     println!("least times in microseconds; 'search' and 'hash' say how the plain planner finds classes\n");
@@ -142,7 +144,7 @@ fn main() {
     let lines = [
         ("L1, 64 x 64", l1(64), 20 * scale),
         ("L2, 16 x 16 x 16", l2(&[16, 16, 16]), 20 * scale),
-        ("many classes, 16 x 16 x 16", many_classes(&[16, 16, 16]), 2 * scale),
+        ("4035 classes, 16 x 16 x 16", many_classes(&[16, 16, 16]), 2 * scale),
     ];
     for (name, nest, rounds) in &lines {
         let (_, t) = times(nest, *rounds);
@@ -168,7 +170,7 @@ fn main() {
     ];
     for (name, nests) in &sizes {
         for nest in nests {
-            let (n, t) = times(nest, 2 * scale);
+            let (n, t) = times(nest, if *name == "many classes" { 2 } else { 20 } * scale);
             let each: Vec<f64> = t.iter().map(|x| x / n as f64).collect();
             println!("{name:<26} {n:>10} {:>9.1} {:>9.1} {:>9.1} {:>9.1} {:>9.1}", each[0], each[1], each[2], each[3], each[4]);
         }

@@ -52,13 +52,13 @@ pub struct Tables {
 }
 
 impl Tables {
-    /// Tables of so many entries, with a number in each that no planner writes everywhere.
-    pub fn new(entries: usize) -> Tables {
+    /// Steps, blocks, processors and values of so many entries each, with a number in each that no planner writes everywhere.
+    pub fn new(entries: [usize; 4]) -> Tables {
         Tables {
-            steps: vec![77; entries],
-            blocks: vec![77; entries],
-            processors: vec![77; entries],
-            values: vec![77; entries],
+            steps: vec![77; entries[0]],
+            blocks: vec![77; entries[1]],
+            processors: vec![77; entries[2]],
+            values: vec![77; entries[3]],
             counts: [77; 5],
         }
     }
