@@ -9,7 +9,7 @@ use lib.ListN.{length, getD, take, drop, replicate}
 use Rattle.integers.specs.Lists.{any, tab}
 use Rattle.nest.specs.declared.LoopNest.{LoopNest}
 use Rattle.nest.specs.Nest.{Limit, toℕ, depthOf, countOf, limitsOf, timeOf, dependencesOf, weightsOf, nestOf, emptyNest, maxDepth, maxDependences}
-use Rattle.nest.specs.Refusals.{refusal, firstMet, headerOrder, bodyOrder, orElse, shortBuffer}
+use Rattle.nest.specs.Refusals.{firstMet, headerOrder, bodyOrder, orElse, shortBuffer}
 use Rattle.nest_text.specs.declared.fields.Field.{Field}
 use Rattle.nest_text.specs.declared.fields.Field.the-variants.{Number, Malformed}
 use Rattle.nest_text.specs.Fields.{Bytes, columns, newline, fieldOf, readOf}
@@ -122,16 +122,16 @@ readRefusal bs =
 unfoldable pub readNest : Bytes → LoopNest
 readNest bs = elim (eqb (readRefusal bs) 0) [ true ↦ bodyOf bs | false ↦ emptyNest ]
 
--- ---- writing into a buffer of a length
+-- ---- writing into a lent buffer: a call that is refused with a number, or not if it is 0, and has these bytes to write
 
--- 2 to 13, then 14 for a buffer shorter than the text
-unfoldable pub writeRefusal : LoopNest → ℕ → ℕ
-writeRefusal s room = orElse (refusal s) (shortBuffer (length (textOf s)) room)
+-- that number, then 14 for a buffer with fewer bytes than there are to write
+unfoldable pub writeRefusal : ℕ → Bytes → ℕ → ℕ
+writeRefusal number bytes room = orElse number (shortBuffer (length bytes) room)
 
 -- how many bytes are written: none where the call is refused
-unfoldable pub writtenLength : LoopNest → ℕ → ℕ
-writtenLength s room = elim (eqb (writeRefusal s room) 0) [ true ↦ length (textOf s) | false ↦ 0 ]
+unfoldable pub writtenLength : ℕ → Bytes → ℕ → ℕ
+writtenLength number bytes room = elim (eqb (writeRefusal number bytes room) 0) [ true ↦ length bytes | false ↦ 0 ]
 
--- what the buffer then holds: the text and what stood behind it, or all that it held before
-unfoldable pub written : LoopNest → Bytes → Bytes
-written s old = elim (eqb (writeRefusal s (length old)) 0) [ true ↦ textOf s ++ drop (length (textOf s)) old | false ↦ old ]
+-- what the buffer then holds: the bytes and what stood behind them, or all that it held before
+unfoldable pub written : ℕ → Bytes → Bytes → Bytes
+written number bytes old = elim (eqb (writeRefusal number bytes (length old)) 0) [ true ↦ bytes ++ drop (length bytes) old | false ↦ old ]

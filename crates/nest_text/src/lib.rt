@@ -9,7 +9,8 @@ use nest::SHORT_BUFFER;
 ghost use mathlib.Core.Path.{_≡_};
 ghost use lib.ListN;
 ghost use Rattle.nest.specs.Nest.{emptyNest};
-ghost use Rattle.nest_text.specs.Text.{readRefusal, readNest, writeRefusal, writtenLength, written};
+ghost use Rattle.nest.specs.Refusals.{refusal};
+ghost use Rattle.nest_text.specs.Text.{textOf, readRefusal, readNest, writeRefusal, writtenLength, written};
 
 // smudged sheet: a line is missing, extra or not in columns
 pub const MALFORMED_TEXT: u8 = 1;
@@ -74,8 +75,8 @@ pub struct Writing {
 
 // The text of an accepted nest into a lent buffer; answers its length, or the number of the first refusal, 2 to 14, with length 0 and no byte changed.
 pub fn write(s: LoopNest, out: &mut [u8]) -> Writing
-    ensures { λ r. ⌜ r ≡ record { refusal = writeRefusal s (lib.ListN.length (now (out .entry))); length = writtenLength s (lib.ListN.length (now (out .entry))) } ⌝ }
-    ensures { λ r. ⌜ now (out .exit) ≡ written s (now (out .entry)) ⌝ }
+    ensures { λ r. ⌜ r ≡ record { refusal = writeRefusal (refusal s) (textOf s) (lib.ListN.length (now (out .entry))); length = writtenLength (refusal s) (textOf s) (lib.ListN.length (now (out .entry))) } ⌝ }
+    ensures { λ r. ⌜ now (out .exit) ≡ written (refusal s) (textOf s) (now (out .entry)) ⌝ }
 {
     let refusal = nest::check(s);
     if refusal != 0 {

@@ -1,8 +1,5 @@
 -- The theorems about every accepted nest (Theorems), the theory of the definitions beneath them, and the laws that the functions' proofs share.
-pub mod Theorems
 pub mod Answers
-pub mod KeyNumbers
-pub mod Lined
 pub mod Blocks
 pub mod ByFirst
 pub mod Chosen
@@ -18,8 +15,10 @@ pub mod Four
 pub mod Frames
 pub mod Independence
 pub mod Inside
+pub mod KeyNumbers
 pub mod KeyTable
 pub mod Keys
+pub mod Lined
 pub mod ListFacts
 pub mod Listed
 pub mod Located
@@ -28,10 +27,12 @@ pub mod NestVectors
 pub mod Nests
 pub mod Numbering
 pub mod Padded
+pub mod Products
 pub mod Sizes
 pub mod Smallest
 pub mod StepLaws
 pub mod Steps
 pub mod Table
+pub mod Theorems
 pub mod Vectors
 pub mod Whole

@@ -33,6 +33,7 @@ use Rattle.partition.proofs.Independence.{chain-independent}
 use Rattle.partition.proofs.Frames.{Last, frame-sound, frame-last}
 use Rattle.partition.proofs.ClassNumbers.{same-third, same-place}
 use Rattle.partition.proofs.Steps as Steps
+use Rattle.partition.proofs.Products.{product-few}
 use Rattle.partition.proofs.Blocks.{quotients-length, lemma-1}
 use Rattle.partition.proofs.Dimension.{chosen-few}
 use Rattle.partition.proofs.ByFirst.{number-early, first-early}
@@ -403,6 +404,22 @@ module _ (s : LoopNest) (ok : refusal s ≡ 0) where
           let r = mem-getD (stepsOf s) (a .0) 0 (subst (λ l. List·Memᴰ (a .0) l) (sym q) (a .1)) in
           let e : stepAt s (r .0) ≡ greatest (stepsOf s) = r .2 ∙ a .2 ∙ ap greatest (map-same (t ∷ ts) ∙ sym q) in
           (r .0, subst (λ n. r .0 < n) steps-length (r .1), omega (arith, e))
+
+  -- steps are small: P·j is, for the iteration and for the one at step 0
+  pub step-few : (k : ℕ) → k < length (pointsOf s) → stepAt s k ≤ 128000
+  step-few k h =
+      let P = timeOf s in
+      let L = leastZ (map (dots P) (pointsOf s)) in
+      let z = first-step in
+      let a = step-is k h in
+      let b = step-is (z .0) (z .1) ∙ ap (λ t. L +ℤ pos t) (z .2) in
+      let p = product-few s ok k h in
+      let q = product-few s ok (z .0) (z .1) in
+      omega (ints, sum L (pos (stepAt s k)), sum L (pos 0), sizes (dots P (point s k)), sizes (dots P (point s (z .0))))
+
+  -- and so is their number
+  pub steps-few : stepCount s ≤ 128001
+  steps-few = omega (arith, last-step .2, step-few (last-step .0) (last-step .1))
 
   -- iterations at one step have one P·j
   pub same-step : (j k : ℕ) → j < length (pointsOf s) → k < length (pointsOf s) → stepAt s j ≡ stepAt s k → dots (timeOf s) (point s j) ≡ dots (timeOf s) (point s k)

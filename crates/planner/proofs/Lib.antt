@@ -1,4 +1,6 @@
 -- The laws that the functions' proofs share.
 pub mod Bridge
 pub mod LineLaws
+pub mod ListLaws
 pub mod PlanLaws
+pub mod Sizes

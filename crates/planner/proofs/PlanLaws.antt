@@ -48,6 +48,12 @@ all-enough n a b c d e =
     let r = orElse-zero (shortBuffer n c) (shortBuffer n d) (q .1) in
     (enough n a (p .0), enough n b (q .0), enough n c (r .0), enough n d (r .1))
 
+-- and where all are long, none is short
+pub none-short : (n a b c d : ℕ) → n ≤ a → n ≤ b → n ≤ c → n ≤ d → noRoom n a b c d ≡ 0
+none-short n a b c d ha hb hc hd =
+    long-here n a (orElse (shortBuffer n b) (orElse (shortBuffer n c) (shortBuffer n d))) ha ∙ long-here n b (orElse (shortBuffer n c) (shortBuffer n d)) hb
+    ∙ long-here n c (shortBuffer n d) hc ∙ long-enough n d hd
+
 -- ---- a table after the call
 
 -- a refusal leaves it as it was
@@ -56,12 +62,12 @@ unfolding tableAfter
 same-table k table old h = rw (tableAfter, ne-eqb k 0 h) refl
 
 -- else it holds n entries, and what stood behind them
-made-table : (k n : ℕ) (table old : List ℕ) → k ≡ 0 → length table ≡ n → tableAfter k table old ≡ table ++ drop n old
+pub made-table : (k n : ℕ) (table old : List ℕ) → k ≡ 0 → length table ≡ n → tableAfter k table old ≡ table ++ drop n old
 unfolding tableAfter
 made-table k n table old e q = rw (tableAfter, eq-eqb k 0 e) (ap (λ i. table ++ drop i old) q)
 
 -- each iteration has a value
-values-length : (s : LoopNest) → length (valuesOf s) ≡ length (pointsOf s)
+pub values-length : (s : LoopNest) → length (valuesOf s) ≡ length (pointsOf s)
 unfolding valuesOf sequential
 values-length s = loop-length (ruleOf s) s (length (pointsOf s))
 
@@ -72,7 +78,7 @@ unfolding planAnswer
 refused-answer s k h = rw (planAnswer, ne-eqb k 0 h) refl
 
 -- the number of an accepted one
-accepted-number : (s : LoopNest) → planAnswer s 0 .refusal ≡ 0
+pub accepted-number : (s : LoopNest) → planAnswer s 0 .refusal ≡ 0
 unfolding planAnswer
 accepted-number s = refl
 

@@ -29,7 +29,7 @@ use Rattle.mapping.specs.Mapping.{inOrder, greatestZ, direction, undealt, takes
 use Rattle.sequential.specs.Sequential.{sourceValue, valueOf as madeOf, loop, sequential, sum, weightedSum, ruleOf, valuesOf}
 use Rattle.planner.specs.Plan.{countsOf}
 use Rattle.planner.specs.Rows.{rowOf}
-use Rattle.planner.specs.Listing.{planLines, listing}
+use Rattle.planner.specs.Listing.{planLines, planText, listing}
 
 -- ---- what a case may say of its nest
 pub data Fact : Type 0 where
@@ -162,5 +162,5 @@ table =
     ∷ []
 
 pub examples-hold : all (λ c. all (says (c .nest)) (c .facts)) table ≡ true
-unfolding any all first place firstsAfter firsts count repeats tab greatest firstFrom dots plus times eqZ eqV isZeroV floorDiv toℕ part limitsOf timeOf dependencesOf weightsOf padded nestOf emptyNest extent indices points pointsOf pointCount rank isPoint source number outside crossed outOfSpan backward holds firstMet refusal orElse sourceRank blanksOf allDigits valueOf digitsOf signedOf readOf digitsTo textOf fieldOf line linesOf isLine numbersOf areLines lineNumbers widths headed nestFrom headerOf widthsOf bodyOf readRefusal readNest T.textOf bytes lines projection divides makesWhole multiplier groupSize leastZ step pivot clear remainder mayGroup groupingVector extend chosenVectors chosenCount latest coefficients left isCombination frame directions difference sameClass coordinates seeds eqG quotients classNumber group blocks blockNumber stepsOf stepCount frameOf groupsOf blocksOf blockCount inOrder greatestZ direction undealt takesBit withBit noDirection nextTurn dealBit dealBits dealt gray partOf joined processor directionsOf processorsOf processorCount crosses isMessage total messageCount sourceValue madeOf loop sequential sum weightedSum ruleOf valuesOf countsOf rowOf planLines listing eqN below isSome pairs says vector nestWith L1 L2 two one listed listedText listedPlan table flatMap zipWith
+unfolding any all first place firstsAfter firsts count repeats tab greatest firstFrom dots plus times eqZ eqV isZeroV floorDiv toℕ part limitsOf timeOf dependencesOf weightsOf padded nestOf emptyNest extent indices points pointsOf pointCount rank isPoint source number outside crossed outOfSpan backward holds firstMet refusal orElse sourceRank blanksOf allDigits valueOf digitsOf signedOf readOf digitsTo textOf fieldOf line linesOf isLine numbersOf areLines lineNumbers widths headed nestFrom headerOf widthsOf bodyOf readRefusal readNest T.textOf bytes lines projection divides makesWhole multiplier groupSize leastZ step pivot clear remainder mayGroup groupingVector extend chosenVectors chosenCount latest coefficients left isCombination frame directions difference sameClass coordinates seeds eqG quotients classNumber group blocks blockNumber stepsOf stepCount frameOf groupsOf blocksOf blockCount inOrder greatestZ direction undealt takesBit withBit noDirection nextTurn dealBit dealBits dealt gray partOf joined processor directionsOf processorsOf processorCount crosses isMessage total messageCount sourceValue madeOf loop sequential sum weightedSum ruleOf valuesOf countsOf rowOf planLines planText listing eqN below isSome pairs says vector nestWith L1 L2 two one listed listedText listedPlan table flatMap zipWith
 examples-hold = refl

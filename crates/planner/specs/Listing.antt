@@ -21,6 +21,10 @@ unfoldable pub planLines : LoopNest → List (List ℤ)
 planLines s =
     map pos (countsOf s) ∷ tab (rowOf (stepsOf s) (blocksOf s) (processorsOf s) (valuesOf s)) (length (pointsOf s))
 
--- a refusal is its number alone
+-- the bytes of those lines
+unfoldable pub planText : LoopNest → Bytes
+planText s = flatMap line (planLines s)
+
+-- what is printed for a text: the plan of its nest; a refusal is its number alone
 unfoldable pub listing : Bytes → Bytes
-listing text = elim (eqb (readRefusal text) 0) [ true ↦ flatMap line (planLines (readNest text)) | false ↦ line (pos (readRefusal text) ∷ []) ]
+listing text = elim (eqb (readRefusal text) 0) [ true ↦ planText (readNest text) | false ↦ line (pos (readRefusal text) ∷ []) ]

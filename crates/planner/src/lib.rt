@@ -1,17 +1,21 @@
-// The plan of a loop nest: its steps, blocks, processors and values, and the counts of them (000, algorithms 1 and 2); and the lines that a listing has.
+// The plan of a loop nest: its steps, blocks, processors and values, and the counts of them (000, algorithms 1 and 2); and its listing.
 mod lines;
 
 use nest::LoopNest;
 use nest::SHORT_BUFFER;
+use nest_text::Writing;
 ghost use mathlib.Core.Path.{_≡_};
 ghost use mathlib.Core.List.{_++_};
-ghost use Prim.Native.Nat.{_≤_};
+ghost use Prim.Native.Nat.{_≤_, _+_, _*_};
 ghost use lib.ListN.{length, drop};
+ghost use lib.Seq.{sets};
 ghost use Rattle.nest.specs.Points.{pointsOf};
 ghost use Rattle.nest.specs.Refusals.{refusal};
 ghost use Rattle.partition.specs.Partition.{stepsOf, blocksOf, blockCount};
 ghost use Rattle.mapping.specs.Mapping.{processorsOf};
 ghost use Rattle.sequential.specs.Sequential.{valuesOf};
+ghost use Rattle.nest_text.specs.Text.{readRefusal, readNest, writeRefusal, writtenLength, written};
+ghost use Rattle.planner.specs.Listing.{planText};
 ghost use Rattle.planner.specs.Plan.{noRoom, planRefusal, refusedWith, planAnswer, tableAfter};
 
 // What `plan` answers: the number of the first refusal with every count 0, or 0 with the counts.
@@ -125,4 +129,49 @@ pub fn plan(
         return refused(room);
     }
     make(s, n, steps, blocks, processors, values)
+}
+
+// The lines of an accepted nest's plan into a lent buffer that has room for them.
+fn put_plan(s: LoopNest, n: usize, out: &mut [u8])
+    requires { ⌜ (refusal s ≡ 0) × (n ≡ length (pointsOf s)) × (31 * (n + 1) ≤ length (now out)) ⌝ }
+    ensures { λ _. ⌜ now (out .exit) ≡ sets (now (out .entry)) 0 (planText s) ⌝ }
+{
+    let mut steps = [0u32; 4096];
+    let mut blocks = [0u16; 4096];
+    let mut processors = [0u8; 4096];
+    let mut values = [0u16; 4096];
+    let p = plan(s, &mut steps, &mut blocks, &mut processors, &mut values);
+    let counts = [p.iterations, p.steps, p.blocks, p.processors, p.messages];
+    let end = lines::put_counts(out, 0, counts);
+    lines::put_rows(out, end, n, &steps, &blocks, &processors, &values);
+}
+
+// The plan of a loop nest as text, from the nest's text into a lent buffer; answers its length, or the number of the first refusal, 1 to 14, with length 0 and no
+// byte changed.
+pub fn list(text: &[u8], out: &mut [u8]) -> Writing
+    ensures { λ r. ⌜ r ≡ record { refusal = writeRefusal (readRefusal (now (text .entry))) (planText (readNest (now (text .entry)))) (length (now (out .entry))); length = writtenLength (readRefusal (now (text .entry))) (planText (readNest (now (text .entry)))) (length (now (out .entry))) } ⌝ }
+    ensures { λ r. ⌜ now (out .exit) ≡ written (readRefusal (now (text .entry))) (planText (readNest (now (text .entry)))) (now (out .entry)) ⌝ }
+{
+    let reading = nest_text::read(text);
+    if reading.refusal != 0 {
+        return Writing {
+            refusal: reading.refusal,
+            length: 0,
+        };
+    }
+    let s = reading.nest;
+    let known = nest::inspect(s);
+    let n = known.iterations;
+    let length = lines::LINE * (n + 1);
+    if out.len() < length {
+        return Writing {
+            refusal: SHORT_BUFFER,
+            length: 0,
+        };
+    }
+    put_plan(s, n, out);
+    Writing {
+        refusal: 0,
+        length: length,
+    }
 }

@@ -9,6 +9,9 @@ ghost use Rattle.nest_text.specs.Text.{line};
 ghost use Rattle.nest_text.specs.Stored.{Stored};
 ghost use Rattle.planner.specs.Rows.{rowOf};
 
+// the bytes of a line of five numbers: six columns each, and the byte that ends the line
+pub const LINE: usize = 31;
+
 // Writes a line of five numbers, each below 1000000.
 pub fn put_counts(out: &mut [u8], at: usize, counts: [usize; 5]) -> usize
     requires { ⌜ (at + 31 ≤ length (now out)) × ((i : ℕ) → i < 5 → getD counts i 0 < 1000000) ⌝ }
@@ -22,15 +25,6 @@ pub fn put_counts(out: &mut [u8], at: usize, counts: [usize; 5]) -> usize
         counts[4] as i64,
     ];
     nest_text::put_line(out, at, &numbers, 0, 5)
-}
-
-// Writes a line of one number.
-pub fn put_number(out: &mut [u8], at: usize, x: u8) -> usize
-    requires { ⌜ at + 7 ≤ length (now out) ⌝ }
-    ensures { λ r. ⌜ Stored (now (out .entry)) at (line (pos x ∷ [])) (now (out .exit)) r ⌝ }
-{
-    let numbers = [x as i64];
-    nest_text::put_line(out, at, &numbers, 0, 1)
 }
 
 // Writes the line of an iteration.

@@ -10,7 +10,7 @@ use Rattle.nest.specs.Refusals.{refusal}
 use Rattle.nest_text.specs.Text.{textOf}
 use Rattle.nest.proofs.Spans.{spans}
 use Rattle.nest_text.proofs.TextLength.{text-length}
-use Rattle.nest_text.proofs.WriteAnswers.{refused-nest, refused-short, text-written}
+use Rattle.nest_text.proofs.WriteAnswers.{refused-first, refused-short, bytes-written}
 use Rattle.nest_text.proofs.write.Statement.{statement}
 use Rattle.nest_text.proofs.write.Tie as tie
 
@@ -18,7 +18,9 @@ check-requires : tie.Need-check-requires
 check-requires c κs = search needs
 
 returns : tie.Need-returns
-returns c = refused-nest (c .before .before .before .args .s) (c .before .before .before .args .out .now) (c .before .check .result) (c .before .check .ensures) (c .if1 .taken)
+returns c =
+    let a = c .before .before .before .args in
+    refused-first (refusal (a .s)) (textOf (a .s)) (a .out .now) (c .before .check .result) (c .before .check .ensures) (c .if1 .taken)
 
 to-size-requires : tie.Need-to-size-requires
 to-size-requires c κs = search needs
@@ -56,7 +58,7 @@ returns-2 : tie.Need-returns-2
 returns-2 c =
     let d = c .before in
     let a = d .before .before .before .before .before .before .before .before .args in
-    refused-short (a .s) (a .out .now) (accepted (d .before .before .before .before .before)) (omega (arith, long d))
+    refused-short (refusal (a .s)) (textOf (a .s)) (a .out .now) (accepted (d .before .before .before .before .before)) (omega (arith, long d))
 
 put-text-requires : tie.Need-put-text-requires
 put-text-requires c κs =
@@ -70,7 +72,7 @@ returns-3 : tie.Need-returns-3
 returns-3 c =
     let d = c .before .before .before .before .before in
     let a = d .before .before .before .before .before .before .before .before .args in
-    text-written (a .s) (a .out .now) (accepted (d .before .before .before .before .before)) (d .text-length .result) (c .before .before .put-text .last .1 .1 .1 .0) (long d) (omega (arith, long d)) (c .before .before .put-text .ensures .bytes)
+    bytes-written (refusal (a .s)) (textOf (a .s)) (a .out .now) (accepted (d .before .before .before .before .before)) (d .text-length .result) (c .before .before .put-text .last .1 .1 .1 .0) (long d) (omega (arith, long d)) (c .before .before .put-text .ensures .bytes)
 
 pub write-spec : {M : Type 1} → statement M
 write-spec =

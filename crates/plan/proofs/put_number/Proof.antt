@@ -4,12 +4,12 @@ use native.Mathlib.Omega.{arith}
 use mathlib.Core.Path.{refl}
 use mathlib.Core.List.{[], _∷_}
 use Rattle.integers.specs.Lists.{tab}
-use Rattle.planner.proofs.LineLaws.{AllSmall, nth-small, held, counts-fit, counts-stored}
-use Rattle.planner.proofs.lines.put_number.Statement.{statement}
-use Rattle.planner.proofs.lines.put_number.Tie as tie
+use Rattle.planner.proofs.LineLaws.{AllSmall, nth-small, held, counts-fit, counts-stored, counts-length}
+use Rattle.plan.proofs.put_number.Statement.{statement}
+use Rattle.plan.proofs.put_number.Tie as tie
 
-cast-t5 : tie.Need-cast-t5
-cast-t5 c = search needs
+cast-t4 : tie.Need-cast-t4
+cast-t4 c = search needs
 
 slice-aggregate-put-line : tie.Need-slice-aggregate-put-line
 slice-aggregate-put-line c = search needs
@@ -35,8 +35,9 @@ returns c =
     let a = c .before .before .before .before .before .before in
     let xs = a .args .x ∷ [] in
     let h = nth-small xs (small a) in
-    counts-stored xs 1 refl h (held xs 1 refl h) (c .before .before .put-line .ensures)
+    let S = counts-stored xs 1 refl h (held xs 1 refl h) (c .before .before .put-line .ensures) in
+    (omega (arith, S .ends, counts-length xs 1 refl h), S)
 
 pub put-number-spec : {M : Type 1} → statement M
 put-number-spec =
-    tie.close (tie.spec cast-t5 slice-aggregate-put-line put-line-requires same-length returns)
+    tie.close (tie.spec cast-t4 slice-aggregate-put-line put-line-requires same-length returns)
