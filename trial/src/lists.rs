@@ -30,6 +30,11 @@ impl Outcome {
         Outcome { difference: Some(difference), ..Outcome::default() }
     }
 
+    /// How many moves were made.
+    pub fn moves(&self) -> u64 {
+        self.answers.iter().sum()
+    }
+
     fn count(&mut self, request: Request, answer: Answer) {
         self.answers[usize::from(answer.number)] += 1;
         if u32::from(answer.number) == DONE {
@@ -130,13 +135,6 @@ impl Subject<'_, '_> {
         }
         outcome.difference = reference.and_then(|r| r.difference(start, &buffers, &outcome));
         outcome
-    }
-}
-
-impl Outcome {
-    /// How many moves were made.
-    pub fn moves(&self) -> u64 {
-        self.answers.iter().sum()
     }
 }
 

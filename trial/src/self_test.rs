@@ -1,6 +1,6 @@
 //! Tests of the comparison itself: it finds nothing wrong with the rules, and every fault.
 
-use std::cell::Cell;
+use std::sync::atomic::{AtomicU64, Ordering};
 
 use second::generate::Random;
 use second::machine::ReferenceMachine;
@@ -153,7 +153,7 @@ enum Damage {
 /// The rules, with a damage at one move: the lowest bit of what is damaged is changed.
 struct Damaged {
     damage: Damage,
-    moves_before: Cell<u64>,
+    moves_before: AtomicU64,
 }
 
 impl Entry for Damaged {
@@ -165,7 +165,7 @@ impl Entry for Damaged {
         let Lent { steps, processors, values, done, delivered } = lent;
         let again = Lent { steps, processors, values, done, delivered };
         let mut answer = Rules { fault: None }.make_move(nest, request, again);
-        if self.moves_before.get() == 0 {
+        if self.moves_before.fetch_sub(1, Ordering::Relaxed) == 0 {
             match self.damage {
                 Damage::Number => answer.number ^= 1,
                 Damage::MadeRank => answer.made[0] ^= 1,
@@ -175,7 +175,6 @@ impl Entry for Damaged {
                 Damage::Delivered(place) => delivered[place] ^= 1,
             }
         }
-        self.moves_before.set(self.moves_before.get().wrapping_sub(1));
         answer
     }
 }
@@ -215,7 +214,7 @@ fn damage_at_any_move_is_reported() {
     damages.extend((0..8).map(Damage::Delivered));
     for damage in damages {
         for move_number in 0..whole.moves() {
-            let entry = Damaged { damage, moves_before: Cell::new(move_number) };
+            let entry = Damaged { damage, moves_before: AtomicU64::new(move_number) };
             let outcome = run_of_example(&entry);
             assert!(outcome.difference.is_some(), "{damage:?} at move {move_number}");
             assert_eq!(outcome.moves(), move_number + 1);
