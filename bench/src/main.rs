@@ -1,8 +1,10 @@
 //! Times the proved planner beside a plain one, in one run, on nests on which both give the same tables.
 
+mod machine;
 mod nest;
 mod plain;
 mod proved;
+mod runs;
 
 use std::hint::black_box;
 use std::time::Instant;
@@ -175,4 +177,6 @@ fn main() {
             println!("{name:<26} {n:>10} {:>9.1} {:>9.1} {:>9.1} {:>9.1} {:>9.1}", each[0], each[1], each[2], each[3], each[4]);
         }
     }
+
+    runs::report("L1, 64 x 64", &l1(64), 2 * scale);
 }

@@ -63,3 +63,32 @@ impl Tables {
         }
     }
 }
+
+/// A move: a processor computes its next iteration, or the message for a rank along a dependence is delivered.
+#[derive(Clone, Copy, PartialEq, Eq, Debug)]
+pub enum Move {
+    Compute(usize),
+    Deliver(usize, usize),
+}
+
+/// The answer of a move: its number, and the rank and value computed, or the rank and dependence number delivered; zeros where refused.
+#[derive(Clone, Copy, PartialEq, Eq, Debug)]
+pub struct Answer {
+    pub number: u8,
+    pub made: [usize; 2],
+}
+
+/// The state of a run.
+#[derive(Clone, PartialEq, Eq, Debug)]
+pub struct State {
+    pub values: Vec<u16>,
+    pub done: Vec<u8>,
+    pub delivered: Vec<u8>,
+}
+
+impl State {
+    /// A fresh state of so many iterations.
+    pub fn fresh(iterations: usize) -> State {
+        State { values: vec![77; iterations], done: vec![0; iterations], delivered: vec![0; iterations] }
+    }
+}

@@ -5,7 +5,7 @@ use std::collections::HashMap;
 
 use crate::nest::{LoopNest, Tables};
 
-type Vector = [i64; 3];
+pub type Vector = [i64; 3];
 
 /// How the class of a projected point is found.
 #[derive(Clone, Copy, PartialEq, Eq)]
@@ -16,7 +16,7 @@ pub enum Lookup {
     Hash,
 }
 
-fn dot(a: Vector, b: Vector) -> i64 {
+pub fn dot(a: Vector, b: Vector) -> i64 {
     a[0] * b[0] + a[1] * b[1] + a[2] * b[2]
 }
 
@@ -33,7 +33,7 @@ fn gcd(a: i64, b: i64) -> i64 {
 }
 
 /// The number of the first refusal, 2 to 13, or the number of iterations.
-fn check(nest: &LoopNest) -> Result<usize, u8> {
+pub fn check(nest: &LoopNest) -> Result<usize, u8> {
     if !(1..=3).contains(&nest.depth) {
         return Err(2);
     }
@@ -81,17 +81,17 @@ fn check(nest: &LoopNest) -> Result<usize, u8> {
 }
 
 /// An accepted nest with three loops.
-struct Loops {
+pub struct Loops {
     lower: Vector,
     upper: Vector,
     /// How much the rank grows with each index.
-    stride: Vector,
+    pub stride: Vector,
     time: Vector,
-    dependences: Vec<Vector>,
+    pub dependences: Vec<Vector>,
 }
 
 impl Loops {
-    fn new(nest: &LoopNest) -> Loops {
+    pub fn new(nest: &LoopNest) -> Loops {
         let n = nest.depth as usize;
         let first = |xs: &[i64]| {
             let mut v = [0; 3];
@@ -124,9 +124,17 @@ impl Loops {
         }
     }
 
+    /// The index point of a rank.
+    #[inline(always)]
+    pub fn point(&self, rank: usize) -> Vector {
+        let rank = rank as i64;
+        let [a, b, _] = self.stride;
+        [self.lower[0] + rank / a, self.lower[1] + rank % a / b, self.lower[2] + rank % b]
+    }
+
     /// The rank of the point j - d, where j has this rank, if it is an iteration; `back` is d's product with the strides.
     #[inline(always)]
-    fn source(&self, rank: usize, j: Vector, d: Vector, back: i64) -> Option<usize> {
+    pub fn source(&self, rank: usize, j: Vector, d: Vector, back: i64) -> Option<usize> {
         let inside = |k: usize| (self.lower[k]..=self.upper[k]).contains(&(j[k] - d[k]));
         if inside(0) && inside(1) && inside(2) {
             Some((rank as i64 - back) as usize)

@@ -1,6 +1,6 @@
 //! The proved planner, as the static library exports it.
 
-use crate::nest::{LoopNest, Tables};
+use crate::nest::{Answer, LoopNest, Move, State, Tables};
 
 mod exported {
     use crate::nest::LoopNest;
@@ -19,6 +19,24 @@ mod exported {
             values: *mut u16,
             values_length: usize,
             counts: *mut usize,
+        ) -> u8;
+
+        pub fn rowlock_move(
+            nest: *const LoopNest,
+            kind: usize,
+            first: usize,
+            second: usize,
+            steps: *const u32,
+            steps_length: usize,
+            processors: *const u8,
+            processors_length: usize,
+            values: *mut u16,
+            values_length: usize,
+            done: *mut u8,
+            done_length: usize,
+            delivered: *mut u8,
+            delivered_length: usize,
+            made: *mut usize,
         ) -> u8;
     }
 }
@@ -47,4 +65,34 @@ pub fn plan(nest: &LoopNest, tables: &mut Tables) -> u8 {
             counts.as_mut_ptr(),
         )
     }
+}
+
+/// Makes one move.
+pub fn make_move(nest: &LoopNest, request: Move, tables: &Tables, state: &mut State) -> Answer {
+    let (kind, first, second) = match request {
+        Move::Compute(processor) => (0, processor, 0),
+        Move::Deliver(rank, dependence) => (1, rank, dependence),
+    };
+    let mut made = [0; 2];
+    // as in `fill`; two numbers are made
+    let number = unsafe {
+        exported::rowlock_move(
+            nest,
+            kind,
+            first,
+            second,
+            tables.steps.as_ptr(),
+            tables.steps.len(),
+            tables.processors.as_ptr(),
+            tables.processors.len(),
+            state.values.as_mut_ptr(),
+            state.values.len(),
+            state.done.as_mut_ptr(),
+            state.done.len(),
+            state.delivered.as_mut_ptr(),
+            state.delivered.len(),
+            made.as_mut_ptr(),
+        )
+    };
+    Answer { number, made }
 }

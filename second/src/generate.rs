@@ -31,20 +31,20 @@ impl Random {
     }
 
     /// A place in a list of the given length.
-    fn place(&mut self, length: usize) -> usize {
+    pub fn place(&mut self, length: usize) -> usize {
         self.between(0, length as i64 - 1) as usize
     }
 
     /// True once in the given number of times.
-    fn once_in(&mut self, times: i64) -> bool {
+    pub fn once_in(&mut self, times: i64) -> bool {
         self.between(1, times) == 1
     }
 
-    fn pick<T: Copy>(&mut self, list: &[T]) -> T {
+    pub fn pick<T: Copy>(&mut self, list: &[T]) -> T {
         list[self.place(list.len())]
     }
 
-    fn shuffle<T>(&mut self, list: &mut [T]) {
+    pub fn shuffle<T>(&mut self, list: &mut [T]) {
         for end in (1..list.len()).rev() {
             list.swap(end, self.place(end + 1));
         }
@@ -54,7 +54,7 @@ impl Random {
         (0..length).map(|_| self.between(-span, span)).collect()
     }
 
-    fn byte(&mut self) -> u8 {
+    pub fn byte(&mut self) -> u8 {
         self.between(0, 255) as u8
     }
 }
@@ -129,9 +129,14 @@ const ACCEPTED_KINDS: &[(&str, NestMaker)] = &[
 ];
 
 fn accepted_case(random: &mut Random, number: u64) -> Case {
-    let (kind, make) = in_turn(ACCEPTED_KINDS, number);
-    let nest = make(random);
+    let (kind, nest) = accepted_nest(random, number);
     Case { family: ACCEPTED, kind: kind.into(), text: text::write(&nest).into_bytes() }
+}
+
+/// An accepted nest and its kind; all kinds come in turn.
+pub fn accepted_nest(random: &mut Random, number: u64) -> (&'static str, LoopNest) {
+    let (kind, make) = in_turn(ACCEPTED_KINDS, number);
+    (kind, make(random))
 }
 
 fn greatest_depth() -> usize {
@@ -537,10 +542,26 @@ const SPOILED_IN_LINE_ONE: std::ops::RangeInclusive<Number> = BAD_DEPTH..=BAD_CU
 
 /// A nest with one condition met; all spoilers come in turn. Refusal 1 comes with the damaged texts.
 fn refused_case(random: &mut Random, number: u64) -> Case {
+    let (refusal, nest) = refused_nest(random, number);
+    Case { family: REFUSED, kind: refusal.to_string(), text: text::write(&nest).into_bytes() }
+}
+
+/// A nest with one condition met, and the number of that refusal; all spoilers come in turn.
+pub fn refused_nest(random: &mut Random, number: u64) -> (Number, LoopNest) {
     let (refusal, spoil) = in_turn(SPOILERS, number);
     let mut nest = nest_to_spoil(random);
     spoil(random, &mut nest);
-    Case { family: REFUSED, kind: refusal.to_string(), text: text::write(&nest).into_bytes() }
+    (refusal, nest)
+}
+
+/// A nest with two conditions met, each by any of the spoilers.
+pub fn twice_refused_nest(random: &mut Random) -> LoopNest {
+    let mut nest = nest_to_spoil(random);
+    for _ in 0..2 {
+        let (_, spoil) = random.pick(SPOILERS);
+        spoil(random, &mut nest);
+    }
+    nest
 }
 
 /// Makes the nest meet the condition of the given refusal, in any of the ways above.
