@@ -107,12 +107,13 @@ pub fn report(name: &str, nest: &LoopNest, rounds: usize) {
         let refused = refused_time(&tables, |request, state| machine.make_move(request, &tables, state));
         theirs = theirs.least(times[0], times[1], refused, &schedule);
     }
-    print(name, &schedule, &ours, &theirs);
+    println!("\na complete run of {name} on {} processors by moves", tables.counts[3]);
+    print(&schedule, &ours, &theirs);
 }
 
-fn print(name: &str, schedule: &Schedule, ours: &Times, theirs: &Times) {
+fn print(schedule: &Schedule, ours: &Times, theirs: &Times) {
     let [allowed, refused, deliveries] = schedule.counts;
-    println!("\na complete run of {name} by moves: {allowed} computes and {deliveries} deliveries allowed, {refused} computes refused");
+    println!("{allowed} computes and {deliveries} deliveries allowed, {refused} computes refused");
     println!("least times; the plain machine checks the nest once, the entry in every move\n");
     println!("{:<26} {:>12} {:>12} {:>7}", "", "entry", "plain", "ratio");
     let (Times(a), Times(b)) = (ours, theirs);
