@@ -611,7 +611,6 @@ pub fn source_of(
     requires { ⌜ (refusal s ≡ 0) × (isPoint (pointsOf s) (part point 0 (depthOf s)) ≡ true) × (i < countOf s) ⌝ }
     ensures { λ r. ⌜ r ≡ padded maxDepth (source (part point 0 (depthOf s)) (dependence s i)) ⌝ }
 {
-    let dependences = s.dependences;
     let n = to_size(s.depth);
-    difference(point, &dependences, i, n)
+    difference(point, &s.dependences, i, n)
 }
