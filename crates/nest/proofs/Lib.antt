@@ -5,6 +5,7 @@ pub mod Accepted
 pub mod Spans
 pub mod Order
 pub mod Sources
+pub mod Successor
 pub mod Ranks
 pub mod Padding
 pub mod Entries

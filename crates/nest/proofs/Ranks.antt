@@ -68,7 +68,7 @@ rank-cons l ls x v h =
     let e : getD (points (l ∷ ls)) (toℕ (x -ℤ l .lower) * pointCount ls + rank (points ls) v) [] ≡ x ∷ v = point-at l ls (toℕ (x -ℤ l .lower)) (rank (points ls) v) (i .0) (r .0) ∙ ap₂ (λ (a : ℤ) (b : Vector). a ∷ b) (i .1) (r .1) in
     ap (rank (points (l ∷ ls))) (sym e) ∙ rank-of-point (l ∷ ls) (toℕ (x -ℤ l .lower) * pointCount ls + rank (points ls) v) (unfold pointCount in join-below (toℕ (x -ℤ l .lower)) (extent l) (pointCount ls) (rank (points ls) v) (i .0) (r .0))
 
-onward-is : (a : ℕ) (ls : List Limit) (v : Vector) → Inside ls v → onward a ls v ≡ a * pointCount ls + rank (points ls) v
+pub onward-is : (a : ℕ) (ls : List Limit) (v : Vector) → Inside ls v → onward a ls v ≡ a * pointCount ls + rank (points ls) v
 onward-is a [] [] h = let r = rank-inside [] [] tt .0 in let one : pointCount [] ≡ 1 = (unfold pointCount in refl) in let m = ap (λ n. a * n) one in omega arith
 onward-is a [] (x ∷ v) h = absurd h
 onward-is a (l ∷ ls) [] h = absurd h

@@ -550,6 +550,44 @@ pub fn point_of(s: LoopNest, rank: usize) -> [i64; LoopNest::MAX_DEPTH]
     point_within(lower, upper, n, rank as u64)
 }
 
+// The index point that comes next in loop order, of n loops whose limits are not crossed: the innermost index that is below its upper limit goes up by one, and those
+// inside it go back to their lower limits.
+fn next_within(
+    lower: [i64; LoopNest::MAX_DEPTH],
+    upper: [i64; LoopNest::MAX_DEPTH],
+    n: usize,
+    point: [i64; LoopNest::MAX_DEPTH],
+) -> [i64; LoopNest::MAX_DEPTH]
+    requires { ⌜ (n ≤ maxDepth) × (any crossed (tab (limitAt lower upper) n) ≡ false) ⌝ }
+    ensures { λ p. ⌜ ((r : ℕ) → r + 1 < pointCount (tab (limitAt lower upper) n) → point ≡ padded maxDepth (getD (points (tab (limitAt lower upper) n)) r []) → p ≡ padded maxDepth (getD (points (tab (limitAt lower upper) n)) (r + 1) [])) ⌝ }
+{
+    let mut next = point;
+    let mut k = n;
+    while 0 < k {
+        k -= 1;
+        if next[k] < upper[k] {
+            next[k] = next[k] + 1;
+            return next;
+        }
+        next[k] = lower[k];
+    }
+    next
+}
+
+// The index point behind one of an accepted nest in loop order, with 0 in the places behind the depth.
+pub fn next_point(
+    s: LoopNest,
+    point: [i64; LoopNest::MAX_DEPTH],
+) -> [i64; LoopNest::MAX_DEPTH]
+    requires { ⌜ refusal s ≡ 0 ⌝ }
+    ensures { λ p. ⌜ ((r : ℕ) → r + 1 < length (pointsOf s) → point ≡ padded maxDepth (getD (pointsOf s) r []) → p ≡ padded maxDepth (getD (pointsOf s) (r + 1) [])) ⌝ }
+{
+    let lower = s.lower;
+    let upper = s.upper;
+    let n = to_size(s.depth);
+    next_within(lower, upper, n, point)
+}
+
 // The rank of a point, of n loops whose limits are not crossed; the number of index points where it is none of them.
 fn rank_within(
     lower: [i64; LoopNest::MAX_DEPTH],
@@ -611,7 +649,6 @@ pub fn source_of(
     requires { ⌜ (refusal s ≡ 0) × (isPoint (pointsOf s) (part point 0 (depthOf s)) ≡ true) × (i < countOf s) ⌝ }
     ensures { λ r. ⌜ r ≡ padded maxDepth (source (part point 0 (depthOf s)) (dependence s i)) ⌝ }
 {
-    let dependences = s.dependences;
     let n = to_size(s.depth);
-    difference(point, &dependences, i, n)
+    difference(point, &s.dependences, i, n)
 }

@@ -3,11 +3,11 @@ use nest::LoopNest;
 use nest::SHORT_BUFFER;
 ghost use mathlib.Core.Path.{_≡_};
 ghost use mathlib.Core.Bool.{true};
-ghost use mathlib.Core.List.{_++_};
+ghost use mathlib.Core.List.{[], _++_};
 ghost use Prim.Native.Nat.{_*_, _<_, _≤_};
 ghost use lib.IntN.{pos};
 ghost use lib.ListN.{length, getD, take, drop};
-ghost use Rattle.nest.specs.Nest.{toℕ, part, depthOf, countOf, maxBoundary, maxWeight};
+ghost use Rattle.nest.specs.Nest.{toℕ, part, padded, depthOf, countOf, maxDepth, maxBoundary, maxWeight};
 ghost use Rattle.nest.specs.Points.{pointsOf, rank, isPoint, source};
 ghost use Rattle.nest.specs.Refusals.{refusal, dependence};
 ghost use Rattle.sequential.specs.Sequential.{valueOf, loop, ruleOf, fillRefusal, filled};
@@ -51,12 +51,17 @@ fn weighted_source(
     weight * entry_or(values, n, j, boundary) as usize
 }
 
-// The value of iteration k of an accepted nest, where the n iterations have these values: the weighted sum of its source values.
-pub fn value_at(s: LoopNest, n: usize, values: &[u16], k: usize) -> u16
-    requires { ⌜ (refusal s ≡ 0) × (n ≡ length (pointsOf s)) × (k < n) × (n ≤ length (now values)) ⌝ }
+// The value of iteration k of an accepted nest, whose index point is given, where the n iterations have these values: the weighted sum of its source values.
+fn value_from(
+    s: LoopNest,
+    n: usize,
+    values: &[u16],
+    point: [i64; LoopNest::MAX_DEPTH],
+    k: usize,
+) -> u16
+    requires { ⌜ (refusal s ≡ 0) × (n ≡ length (pointsOf s)) × (k < n) × (n ≤ length (now values)) × (point ≡ padded maxDepth (getD (pointsOf s) k [])) ⌝ }
     ensures { λ r. ⌜ r ≡ valueOf (ruleOf s) s (now (values .entry)) k ⌝ }
 {
-    let point = nest::point_of(s, k);
     let m = nest::to_size(s.count);
     let mut sum = k;
     for i in 0..m {
@@ -65,13 +70,25 @@ pub fn value_at(s: LoopNest, n: usize, values: &[u16], k: usize) -> u16
     (sum % MODULUS) as u16
 }
 
+// The value of iteration k of an accepted nest, where the n iterations have these values.
+pub fn value_at(s: LoopNest, n: usize, values: &[u16], k: usize) -> u16
+    requires { ⌜ (refusal s ≡ 0) × (n ≡ length (pointsOf s)) × (k < n) × (n ≤ length (now values)) ⌝ }
+    ensures { λ r. ⌜ r ≡ valueOf (ruleOf s) s (now (values .entry)) k ⌝ }
+{
+    let point = nest::point_of(s, k);
+    value_from(s, n, values, point, k)
+}
+
 // The values of the n iterations of an accepted nest, in loop order.
 fn fill_values(s: LoopNest, n: usize, values: &mut [u16])
     requires { ⌜ (refusal s ≡ 0) × (n ≡ length (pointsOf s)) × (n ≤ length (now values)) ⌝ }
     ensures { λ _. ⌜ now (values .exit) ≡ loop (ruleOf s) s n ++ drop n (now (values .entry)) ⌝ }
 {
+    let mut point = nest::point_of(s, 0);
     for k in 0..n {
-        values[k] = value_at(s, n, values, k);
+        values[k] = value_from(s, n, values, point, k);
+        let next = nest::next_point(s, point);
+        point = next;
     }
 }
 
