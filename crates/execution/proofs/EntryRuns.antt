@@ -55,8 +55,7 @@ module _ (s : LoopNest) (L : Layout) (st₀ : State ℕ) (ok : refusal s ≡ 0) 
         → (last .values ≡ valuesOf s ++ drop (length (pointsOf s)) (st₀ .values)) × (allowedCount (map numberOf rs) ≡ length (pointsOf s) + messageCount s)
     entry-complete none =
         let c = outcome .complete-unless-missing none in
-        let st = run (ruleOf s) s L st₀ moves in
-        (
+        let st = run (ruleOf s) s L st₀ moves in (
           ap (λ (u : State ℕ). u .values) (entry-run .1) ∙ weighted-table s st₀ (referenceRun s moves) st (answers (ruleOf s) s L st₀ moves) c,
           ap allowedCount (entry-run .0) ∙ c .all-allowed,
         )
