@@ -38,7 +38,7 @@ rankOr n (some k) = k
 -- the move that is asked for (document 01: a card's compute, or a delivery that names a rank and an offset number)
 abbrev pub moveOf : asked.Move → Move
 moveOf (Compute processor) = compute processor
-moveOf (Deliver rank dependence) = deliver rank dependence
+moveOf (Deliver d) = deliver (d .rank) (d .dependence)
 
 -- the document's number of an answer: 0 for a move that is made
 abbrev pub numberOf : Answer → ℕ

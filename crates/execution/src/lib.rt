@@ -26,10 +26,16 @@ pub const IDLE_PROCESSOR: u8 = 17;
 // no such place: no such processor, rank or dependence
 pub const NO_SUCH_PLACE: u8 = 18;
 
-// A move: a processor computes its next iteration, or the message of an iteration along a dependence is delivered. Any numbers may be asked for.
+// A message, by the iteration that gets it and the dependence that it comes along.
+pub struct Delivery {
+    pub rank: usize,
+    pub dependence: usize,
+}
+
+// A move: a processor computes its next iteration, or a message is delivered. Any numbers may be asked for.
 pub enum Move {
-    Compute { processor: usize },
-    Deliver { rank: usize, dependence: usize },
+    Compute(usize),
+    Deliver(Delivery),
 }
 
 // What a caller asks for.
@@ -41,12 +47,6 @@ pub struct Request {
 pub struct Computation {
     pub rank: usize,
     pub value: u16,
-}
-
-// The message that was delivered: to which iteration, along which dependence.
-pub struct Delivery {
-    pub rank: usize,
-    pub dependence: usize,
 }
 
 // What a move is answered: what it did, or the number of its refusal, 2 to 18.
@@ -184,24 +184,7 @@ pub fn make_move(
     }
     let what = request.what;
     match what {
-        Move::Compute { processor } => compute(
-            s,
-            n,
-            processor,
-            steps,
-            processors,
-            values,
-            done,
-            delivered,
-        ),
-        Move::Deliver { rank, dependence } => deliver(
-            s,
-            n,
-            rank,
-            dependence,
-            processors,
-            done,
-            delivered,
-        ),
+        Move::Compute(p) => compute(s, n, p, steps, processors, values, done, delivered),
+        Move::Deliver(d) => deliver(s, n, d.rank, d.dependence, processors, done, delivered),
     }
 }

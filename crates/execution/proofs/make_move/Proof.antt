@@ -110,7 +110,7 @@ returns-4 c =
     let f = c .before .before .deliver in
     let g = c .before .before .before .before .before .before .what2 .given in
     made-move (a .s) (a .steps .now) (a .processors .now) (a .values .now) (a .done .now) (a .delivered .now) (moveOf (a .request .what)) (accepted e) (i .inspect .result .iterations) (count e)
-    (sym (t .before .check-buffers .ensures) ∙ t .if2 .left) (deliver (g .0 .0) (g .0 .1 .0)) (ap moveOf (g .1)) (f .result) (stateIn (a .values .now) (a .done .now) (f .last .1 .1 .1 .1 .1 .1 .0))
+    (sym (t .before .check-buffers .ensures) ∙ t .if2 .left) (deliver (g .0 .0 .rank) (g .0 .0 .dependence)) (ap moveOf (g .1)) (f .result) (stateIn (a .values .now) (a .done .now) (f .last .1 .1 .1 .1 .1 .1 .0))
     (f .ensures .0 (a .steps .now) (a .values .now), f .ensures .1 (a .steps .now) (a .values .now))
 
 pub make-move-spec : {M : Type 1} → statement M

@@ -8,16 +8,22 @@ shared-slice-read-if1 : tie.Need-shared-slice-read-if1
 shared-slice-read-if1 c = search needs
 
 returns : tie.Need-returns
-returns c = search kept-done
+returns c =
+    let a = c .before .before .args in
+    kept-done (a .steps .now) (a .processors .now) (a .done .now) (a .n) (a .p) (a .k) (a .best) (c .if1 .taken)
 
 shared-slice-read-if2 : tie.Need-shared-slice-read-if2
 shared-slice-read-if2 c = search needs
 
 returns-2 : tie.Need-returns-2
-returns-2 c = search kept-elsewhere
+returns-2 c =
+    let a = c .before .before .before .before .args in
+    kept-elsewhere (a .steps .now) (a .processors .now) (a .done .now) (a .n) (a .p) (a .k) (a .best) (c .before .before .if1 .left) (c .if2 .taken)
 
 returns-3 : tie.Need-returns-3
-returns-3 c = search taken-first
+returns-3 c =
+    let a = c .before .before .before .before .before .args in
+    taken-first (a .steps .now) (a .processors .now) (a .done .now) (a .n) (a .p) (a .k) (a .best) (c .before .before .before .if1 .left) (c .before .if2 .left) (c .if3 .taken)
 
 mul-if4 : tie.Need-mul-if4
 mul-if4 c = search needs
