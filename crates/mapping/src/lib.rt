@@ -9,7 +9,7 @@ ghost use lib.IntN.{ℤ, pos, natAbs, _-ℤ_};
 ghost use lib.ListN.{length, getD, set, take, drop};
 ghost use lib.Signed.{_≤ℤ_};
 ghost use Rattle.integers.specs.Lists.{tab, count, firsts};
-ghost use Rattle.nest.specs.Nest.{toℕ, countOf, maxDepth, maxCube, maxIterations};
+ghost use Rattle.nest.specs.Nest.{toℕ, countOf, padded, maxDepth, maxCube, maxIterations};
 ghost use Rattle.nest.specs.Points.{pointsOf};
 ghost use Rattle.nest.specs.Refusals.{refusal};
 ghost use Rattle.partition.specs.Projection.{leastZ};
@@ -283,12 +283,17 @@ fn is_elsewhere(processors: &[u8], n: usize, k: usize, j: usize) -> usize
     if processors[j] == processors[k] { 0 } else { 1 }
 }
 
-// How many messages there are to iteration k, of n.
-fn messages_to(s: LoopNest, n: usize, processors: &[u8], k: usize) -> usize
-    requires { ⌜ (refusal s ≡ 0) × (n ≡ length (pointsOf s)) × (k < n) × (n ≤ length (now processors)) ⌝ }
+// How many messages there are to iteration k, of n, whose index point is given.
+fn messages_to(
+    s: LoopNest,
+    n: usize,
+    processors: &[u8],
+    point: [i64; LoopNest::MAX_DEPTH],
+    k: usize,
+) -> usize
+    requires { ⌜ (refusal s ≡ 0) × (n ≡ length (pointsOf s)) × (k < n) × (n ≤ length (now processors)) × (point ≡ padded maxDepth (getD (pointsOf s) k [])) ⌝ }
     ensures { λ r. ⌜ r ≡ count (isMessage s (take n (now (processors .entry))) k) (tab (λ i. i) (countOf s)) ⌝ }
 {
-    let point = nest::point_of(s, k);
     let m = nest::to_size(s.count);
     let mut number = 0;
     for i in 0..m {
@@ -304,8 +309,11 @@ pub fn message_count(s: LoopNest, n: usize, processors: &[u8]) -> usize
     ensures { λ r. ⌜ r ≡ total (tab (λ k. count (isMessage s (take n (now (processors .entry))) k) (tab (λ i. i) (countOf s))) n) ⌝ }
 {
     let mut number = 0;
+    let mut point = nest::point_of(s, 0);
     for k in 0..n {
-        number = number + messages_to(s, n, processors, k);
+        number = number + messages_to(s, n, processors, point, k);
+        let next = nest::next_point(s, point);
+        point = next;
     }
     number
 }

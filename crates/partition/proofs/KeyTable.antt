@@ -229,6 +229,19 @@ numbered-number same t out₀ out heads k n N j l =
 pub numbered-at : (same : Vector → Vector → Bool) (t : List ℤ) (out₀ out heads : List ℕ) (k n : ℕ) → Numbered same t out₀ out heads k n → (j : ℕ) → j < n → getD out j 0 ≡ place (same (row t j)) (map (row t) (take k heads))
 numbered-at same t out₀ out heads k n N j l = numbered-number same t out₀ out heads k n N j l ∙ ap (place (same (row t j))) (sym (N .heads-are))
 
+-- the group of an earlier point of the same class and the same coordinates is that of point i
+pub key-copied : (same : Vector → Vector → Bool) (F : Frame) (count : ℕ) (t keys₀ keys : List ℤ) (heads : List ℕ) (k i c b : ℕ) → Keying same F count t keys₀ keys heads k i → b < i
+    → c ≡ place (same (row t i)) (map (row t) (take k heads)) → place (same (row t i)) (map (row t) (take k heads)) ≡ place (same (row t b)) (map (row t) (take k heads))
+    → ((h : Vector) → Keyed F count c (row t b) h (row keys b) → Keyed F count c (row t i) h (row keys b))
+    → Keyed F count c (row t i) (row t (getD (set heads k i) c 0)) (row keys b)
+key-copied same F count t keys₀ keys heads k i c b K l at e move =
+    move (row t (getD (set heads k i) c 0))
+    (subst (λ (x : ℕ). Keyed F count x (row t b) (row t (getD (set heads k i) x 0)) (row keys b)) number
+    (subst (λ (a : ℕ). Keyed F count (getD (K .out) b 0) (row t b) (row t a) (row keys b)) (sym (getD-set-other heads k (getD (K .out) b 0) i 0 (NatL.ne-of-lt (K .low b l)))) (K .keyed b l)))
+  where
+    number : getD (K .out) b 0 ≡ c
+    number = numbered-at same t blank (K .out) heads k i (K .num) b l ∙ sym e ∙ sym at
+
 -- the class numbers stand first in the rows
 pub keying-class : (same : Vector → Vector → Bool) (F : Frame) (count : ℕ) (t keys₀ keys : List ℤ) (heads : List ℕ) (k n : ℕ) → Keying same F count t keys₀ keys heads k n → (j : ℕ) → j < n
     → getD keys (j * 4) (pos 0) ≡ pos (place (same (row t j)) (map (row t) (take k heads)))

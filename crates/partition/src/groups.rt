@@ -7,7 +7,7 @@ ghost use mathlib.Core.List.{map};
 ghost use Prim.Native.Nat.{ℕ, _+_, _*_, _<_, _≤_};
 ghost use lib.ListN.{length, take, getD};
 ghost use Rattle.integers.specs.Lists.{place};
-ghost use Rattle.integers.specs.Vector.{minus, AllWithin};
+ghost use Rattle.integers.specs.Vector.{minus, zeros, AllWithin};
 ghost use Rattle.partition.specs.Tables.{row, putRow};
 ghost use Rattle.partition.specs.Projection.{projection};
 ghost use lib.IntN.{pos};
@@ -61,56 +61,64 @@ pub fn find_class(f: Frame, points: &[i64], heads: &[usize], k: usize, i: usize)
     k
 }
 
-// Whether a vector is inside with every coordinate 0.
-pub fn is_origin(inside: bool, a: i64, b: i64, c: i64) -> bool
-    ensures { λ r. ⌜ (r ≡ true → (inside ≡ true) × (a ≡ pos 0) × (b ≡ pos 0) × (c ≡ pos 0)) ⌝ }
+// The place `back` before i; i where there is none.
+pub fn place_before(i: usize, back: usize) -> usize
+    ensures { λ r. ⌜ r ≤ i ⌝ }
 {
-    if !inside {
-        return false;
-    }
-    if a != 0 {
-        return false;
-    }
-    if b != 0 {
-        return false;
-    }
-    c == 0
+    if back <= i { i - back } else { i }
 }
 
-// Whether h is an earlier point with the projection of point i: their difference lies along P.
-pub fn has_line(f: Frame, points: &[i64], i: usize, h: usize) -> bool
-    requires { ⌜ Framed (f .p) (f .count) (f .v1) (f .v2) (f .v3) (f .f1) (f .f2) (f .f3) (f .d) ⌝ }
+// Whether two vectors are equal.
+pub fn same_vector(a: [i64; 4], b: [i64; 4]) -> bool
+    ensures { λ r. ⌜ (r ≡ true → a ≡ b) ⌝ }
+{
+    if a[0] != b[0] {
+        return false;
+    }
+    if a[1] != b[1] {
+        return false;
+    }
+    if a[2] != b[2] {
+        return false;
+    }
+    a[3] == b[3]
+}
+
+// The point that is `back` places before point i, where v leads from it to point i; otherwise i. Any `back` will do, but only the right one finds it.
+pub fn neighbour(points: &[i64], v: [i64; 4], back: usize, i: usize) -> usize
     requires { ⌜ (i * 4 + 4 ≤ length (now points)) × (i < 4096) × AllWithin 1000 (now points) ⌝ }
-    ensures { λ r. ⌜ (r ≡ true → (h < i) × (projection (f .p) (row (now (points .entry)) i) ≡ projection (f .p) (row (now (points .entry)) h))) ⌝ }
+    ensures { λ r. ⌜ r ≤ i ⌝ }
+    ensures { λ r. ⌜ (r < i → minus (row (now (points .entry)) i) (row (now (points .entry)) r) ≡ v) ⌝ }
 {
-    if h >= i {
-        return false;
-    }
+    let h = place_before(i, back);
     let e = difference(points, i, h);
-    let g = locate(f, e);
-    is_origin(g.inside, g.c1, g.c2, g.c3)
+    if same_vector(e, v) {
+        return h;
+    }
+    i
 }
 
-// The number of the class of point i, as `find_class` finds it. Where h is an earlier point on its projection line, it has that class, which stands in
-// its row of `keys`; any h will do, but only such a one spares the search.
+// The number of the class of point i, as `find_class` finds it. Where b is an earlier point, it is one of the same projection line, so that its class is
+// that of point i; it stands in row b of `keys`.
 pub fn class_of(
     f: Frame,
     points: &[i64],
     heads: &[usize],
     k: usize,
     keys: &[i64],
-    h: usize,
+    b: usize,
     i: usize,
 ) -> usize
     requires { ⌜ Framed (f .p) (f .count) (f .v1) (f .v2) (f .v3) (f .f1) (f .f2) (f .f3) (f .d) ⌝ }
     requires { ⌜ (i * 4 + 4 ≤ length (now points)) × (i < 4096) × (k ≤ length (now heads)) × (k ≤ 4096) × (i * 4 ≤ length (now keys)) ⌝ }
     requires { ⌜ ((c : ℕ) → c < k → (getD (now heads) c 0 * 4 + 4 ≤ length (now points)) × (getD (now heads) c 0 < 4096)) ⌝ }
     requires { ⌜ ((j : ℕ) → j < i → getD (now keys) (j * 4) (pos 0) ≡ pos (place (inOneClass (f .p) (f .count) (f .v1) (f .v2) (f .v3) (row (now points) j)) (map (row (now points)) (take k (now heads))))) ⌝ }
+    requires { ⌜ (b < i → projection (f .p) (row (now points) i) ≡ projection (f .p) (row (now points) b)) ⌝ }
     requires { ⌜ AllWithin 1000 (now points) ⌝ }
     ensures { λ r. ⌜ r ≡ place (inOneClass (f .p) (f .count) (f .v1) (f .v2) (f .v3) (row (now (points .entry)) i)) (map (row (now (points .entry))) (take k (now (heads .entry)))) ⌝ }
 {
-    if has_line(f, points, i, h) {
-        return keys[h * 4] as usize;
+    if b < i {
+        return keys[b * 4] as usize;
     }
     find_class(f, points, heads, k, i)
 }
@@ -141,6 +149,42 @@ pub fn group_key(f: Frame, r: usize, class: usize, points: &[i64], i: usize, h: 
     [class as i64, q, g.c2, g.c3]
 }
 
+// Row i of a flat table.
+pub fn row_of(t: &[i64], i: usize) -> [i64; 4]
+    requires { ⌜ (i * 4 + 4 ≤ length (now t)) × (i < 4096) ⌝ }
+    ensures { λ r. ⌜ r ≡ row (now (t .entry)) i ⌝ }
+{
+    let a = i * 4;
+    [t[a], t[a + 1], t[a + 2], t[a + 3]]
+}
+
+// The group of point i, as `group_key` finds it. Where b is an earlier point, its group is that of point i; it stands in row b of `keys`.
+pub fn group_of(
+    f: Frame,
+    r: usize,
+    class: usize,
+    points: &[i64],
+    keys: &[i64],
+    b: usize,
+    i: usize,
+    h: usize,
+) -> [i64; 4]
+    requires { ⌜ Framed (f .p) (f .count) (f .v1) (f .v2) (f .v3) (f .f1) (f .f2) (f .f3) (f .d) ⌝ }
+    requires { ⌜ (1 ≤ r) × (r ≤ 1000000) × (class < 4096) ⌝ }
+    requires { ⌜ (i * 4 + 4 ≤ length (now points)) × (h * 4 + 4 ≤ length (now points)) × (i * 4 ≤ length (now keys)) ⌝ }
+    requires { ⌜ (i < 4096) × (h < 4096) ⌝ }
+    requires { ⌜ AllWithin 1000 (now points) ⌝ }
+    requires { ⌜ inOneClass (f .p) (f .count) (f .v1) (f .v2) (f .v3) (row (now points) i) (row (now points) h) ≡ true ⌝ }
+    requires { ⌜ (b < i → Keyed (basisFrame (f .p) (f .count) (f .v1) (f .v2) (f .v3) r) (f .count) class (row (now points) i) (row (now points) h) (row (now keys) b) × AllWithin 1000000000 (row (now keys) b)) ⌝ }
+    ensures { λ key. ⌜ Keyed (basisFrame (f .p) (f .count) (f .v1) (f .v2) (f .v3) r) (f .count) class (row (now (points .entry)) i) (row (now (points .entry)) h) key ⌝ }
+    ensures { λ key. ⌜ AllWithin 1000000000 key ⌝ }
+{
+    if b < i {
+        return row_of(keys, b);
+    }
+    group_key(f, r, class, points, i, h)
+}
+
 // Writes row i of a flat table.
 pub fn put_row(keys: &mut [i64], i: usize, g: [i64; 4])
     requires { ⌜ (i * 4 + 4 ≤ length (now keys)) × (i < 4096) ⌝ }
@@ -154,31 +198,33 @@ pub fn put_row(keys: &mut [i64], i: usize, g: [i64; 4])
     keys[a + 3] = g[3];
 }
 
-// The group of each of the n points, as four numbers; answers how many classes there are. `earlier` has for each point an earlier one on its projection
-// line, where there is one.
+// The group of each of the n points, as four numbers; answers how many classes there are. Points that v leads to lie on one projection line, so they
+// have one group: it is copied from the point before, `back` places earlier, and only the first point of a line is looked at.
 pub fn key_table(
     f: Frame,
     r: usize,
     points: &[i64],
-    earlier: &[usize],
+    v: [i64; 4],
+    back: usize,
     n: usize,
     keys: &mut [i64],
 ) -> usize
     requires { ⌜ Framed (f .p) (f .count) (f .v1) (f .v2) (f .v3) (f .f1) (f .f2) (f .f3) (f .d) ⌝ }
-    requires { ⌜ (1 ≤ r) × (r ≤ 1000000) × (n ≤ 4096) × (n * 4 ≤ length (now points)) × (n * 4 ≤ length (now keys)) × (n ≤ length (now earlier)) ⌝ }
+    requires { ⌜ (1 ≤ r) × (r ≤ 1000000) × (n ≤ 4096) × (n * 4 ≤ length (now points)) × (n * 4 ≤ length (now keys)) ⌝ }
     requires { ⌜ AllWithin 1000 (now points) ⌝ }
+    requires { ⌜ projection (f .p) v ≡ zeros 4 ⌝ }
     ensures { λ k. ⌜ Grouped (basisFrame (f .p) (f .count) (f .v1) (f .v2) (f .v3) r) (f .count) (now (points .entry)) n (now (keys .entry)) (now (keys .exit)) ⌝ }
 {
     let mut heads: [usize; 4096] = [0; 4096];
     let mut k: usize = 0;
     let mut i: usize = 0;
     while i < n {
-        let b = earlier[i];
+        let b = neighbour(points, v, back, i);
         let c = class_of(f, points, &heads, k, keys, b, i);
         heads[k] = i;
         k = one_more(c, k);
         let h = heads[c];
-        let g = group_key(f, r, c, points, i, h);
+        let g = group_of(f, r, c, points, keys, b, i, h);
         put_row(keys, i, g);
         i += 1;
     }

@@ -3,6 +3,7 @@ use crate::arithmetic::serves;
 use crate::choice::choose;
 use crate::choice::group_size;
 use crate::choice::grouping_index;
+use crate::groups::difference;
 use crate::groups::put_row;
 use crate::lattice::Frame;
 use crate::lattice::quotient;
@@ -10,15 +11,16 @@ use nest::LoopNest;
 ghost use mathlib.Core.Path.{_≡_};
 ghost use mathlib.Core.List.{map};
 ghost use Prim.Native.Nat.{_+_, _*_, _<_, _≤_};
-ghost use lib.IntN.{pos, natAbs};
+ghost use lib.IntN.{pos, negsuc, natAbs};
 ghost use lib.Signed.{_≤ℤ_};
 ghost use lib.ListN.{length};
-ghost use Rattle.integers.specs.Vector.{AllWithin};
+ghost use Rattle.integers.specs.Vector.{AllWithin, times, zeros};
 ghost use Rattle.nest.specs.Nest.{part, padded, depthOf, countOf, timeOf, dependencesOf};
 ghost use Rattle.nest.specs.Points.{pointsOf};
 ghost use Rattle.nest.specs.Refusals.{refusal};
 ghost use Rattle.partition.specs.Tables.{rows};
-ghost use Rattle.partition.specs.Projection.{groupSize};
+ghost use Rattle.partition.specs.Periods.{Serves};
+ghost use Rattle.partition.specs.Projection.{projection, groupSize};
 ghost use Rattle.partition.specs.Grouping.{chosenVectors};
 ghost use Rattle.partition.specs.Basis.{pick, Framed};
 
@@ -95,10 +97,10 @@ pub fn fill_points(s: LoopNest, n: usize, points: &mut [i64])
     }
 }
 
-// The components of v, each divided by g.
+// The components of v, each divided by g, which divides them.
 pub fn divided(v: [i64; 4], g: i64) -> [i64; 4]
-    requires { ⌜ AllWithin 16 v × (pos 1 ≤ℤ g) × (natAbs g ≤ 16) ⌝ }
-    ensures { λ r. ⌜ AllWithin 16 r ⌝ }
+    requires { ⌜ AllWithin 16 v × (pos 1 ≤ℤ g) × (natAbs g ≤ 16) × Serves v g (pos 1) 4 ⌝ }
+    ensures { λ r. ⌜ AllWithin 16 r × (times g r ≡ v) ⌝ }
 {
     [
         quotient(v[0], g),
@@ -108,10 +110,10 @@ pub fn divided(v: [i64; 4], g: i64) -> [i64; 4]
     ]
 }
 
-// The shortest step along p: its components divided by their greatest common divisor, which is at most 16.
+// The shortest whole vector along p: its components divided by their greatest common divisor, which is at most 16.
 pub fn shortest(p: [i64; 4]) -> [i64; 4]
     requires { ⌜ AllWithin 16 p ⌝ }
-    ensures { λ r. ⌜ AllWithin 16 r ⌝ }
+    ensures { λ r. ⌜ AllWithin 16 r × (projection p r ≡ zeros 4) ⌝ }
 {
     let mut g: usize = 16;
     while g > 1 {
@@ -124,32 +126,47 @@ pub fn shortest(p: [i64; 4]) -> [i64; 4]
     p
 }
 
-// A point and p, once or less once.
-pub fn beside(j: [i64; 3], p: [i64; 4], sign: i64) -> [i64; 3]
-    requires { ⌜ AllWithin 1000 j × AllWithin 16 p × (natAbs sign ≤ 1) ⌝ }
+// -v.
+pub fn opposite(v: [i64; 4]) -> [i64; 4]
+    requires { ⌜ AllWithin 16 v ⌝ }
+    ensures { λ r. ⌜ r ≡ times (negsuc 0) v ⌝ }
 {
-    [j[0] + sign * p[0], j[1] + sign * p[1], j[2] + sign * p[2]]
+    [0 - v[0], 0 - v[1], 0 - v[2], 0 - v[3]]
 }
 
-// The rank of the iteration one step p from iteration k, on the side that comes earlier in loop order; not below k where there is none.
-pub fn neighbour(s: LoopNest, p: [i64; 4], k: usize) -> usize
-    requires { ⌜ (refusal s ≡ 0) × (k < length (pointsOf s)) × AllWithin 16 p ⌝ }
+// How many places of loop order v leads over, from one of the n index points to another. The last point less the first gives the extents of the loops.
+pub fn apart(points: &[i64], n: usize, v: [i64; 4]) -> i64
+    requires { ⌜ (1 ≤ n) × (n ≤ 4096) × (n * 4 ≤ length (now points)) × AllWithin 1000 (now points) × AllWithin 16 v ⌝ }
+    ensures { λ r. ⌜ natAbs r ≤ 100000000 ⌝ }
 {
-    let j = nest::point_of(s, k);
-    let before = nest::rank_of(s, beside(j, p, -1));
-    if before < k {
-        return before;
+    let e = difference(points, n - 1, 0);
+    (v[0] * (e[1] + 1) + v[1]) * (e[2] + 1) + v[2]
+}
+
+// What leads to the point before on a projection line.
+pub struct Line {
+    // the vector to a point from the one before
+    pub vector: [i64; 4],
+    // how many places of loop order it leads over
+    pub back: usize,
+}
+
+// The projection lines of the n index points: the shortest vector along p, turned so that it leads to later points.
+pub fn line_of(p: [i64; 4], points: &[i64], n: usize) -> Line
+    requires { ⌜ AllWithin 16 p ⌝ }
+    requires { ⌜ (1 ≤ n) × (n ≤ 4096) × (n * 4 ≤ length (now points)) × AllWithin 1000 (now points) ⌝ }
+    ensures { λ r. ⌜ projection p (r .vector) ≡ zeros 4 ⌝ }
+{
+    let v = shortest(p);
+    let d = apart(points, n, v);
+    if d < 0 {
+        return Line {
+            vector: opposite(v),
+            back: (0 - d) as usize,
+        };
     }
-    nest::rank_of(s, beside(j, p, 1))
-}
-
-// For each of the n iterations an earlier one on its projection line, where there is one.
-pub fn fill_earlier(s: LoopNest, n: usize, earlier: &mut [usize])
-    requires { ⌜ (refusal s ≡ 0) × (n ≡ length (pointsOf s)) × (n ≤ length (now earlier)) ⌝ }
-    ensures { λ r. ⌜ length (now (earlier .exit)) ≡ length (now (earlier .entry)) ⌝ }
-{
-    let p = shortest(time_vector(s, nest::to_size(s.depth)));
-    for k in 0..n {
-        earlier[k] = neighbour(s, p, k);
+    Line {
+        vector: v,
+        back: d as usize,
     }
 }

@@ -8,9 +8,9 @@ mod numbers;
 mod schedule;
 
 use crate::groups::key_table;
-use crate::inputs::fill_earlier;
 use crate::inputs::fill_points;
 use crate::inputs::frame_of;
+use crate::inputs::line_of;
 use crate::inputs::size_of;
 use crate::numbers::number_table;
 pub use crate::schedule::steps_into;
@@ -36,8 +36,9 @@ pub fn blocks_into(s: LoopNest, n: usize, keys: &mut [i64], blocks: &mut [u16]) 
     let f = frame_of(s, r);
     let mut points = [0i64; 16384];
     fill_points(s, n, &mut points);
-    let mut earlier = [0usize; 4096];
-    fill_earlier(s, n, &mut earlier);
-    key_table(f, r, &points, &earlier, n, keys);
-    number_table(keys, &earlier, n, blocks)
+    let p = f.p;
+    let line = line_of(p, &points, n);
+    let v = line.vector;
+    key_table(f, r, &points, v, line.back, n, keys);
+    number_table(keys, line.back, n, blocks)
 }

@@ -1,5 +1,6 @@
 // Numbering of rows by first equal row: blocks in the order of their first iterations.
 use crate::groups::one_more;
+use crate::groups::place_before;
 ghost use mathlib.Core.Path.{_≡_};
 ghost use mathlib.Core.Bool.{true};
 ghost use mathlib.Core.List.{_++_, map};
@@ -70,10 +71,10 @@ pub fn row_number(keys: &[i64], heads: &[usize], k: usize, out: &[u16], h: usize
     find_row(keys, heads, k, i)
 }
 
-// The number of each of the n rows, by first equal row; answers how many different rows there are. `earlier` has for each row
-// another that may be equal.
-pub fn number_table(keys: &[i64], earlier: &[usize], n: usize, out: &mut [u16]) -> usize
-    requires { ⌜ (n ≤ 4096) × (n * 4 ≤ length (now keys)) × (n ≤ length (now out)) × (n ≤ length (now earlier)) ⌝ }
+// The number of each of the n rows, by first equal row; answers how many different rows there are. The row
+// `back` places earlier is looked at first.
+pub fn number_table(keys: &[i64], back: usize, n: usize, out: &mut [u16]) -> usize
+    requires { ⌜ (n ≤ 4096) × (n * 4 ≤ length (now keys)) × (n ≤ length (now out)) ⌝ }
     ensures { λ r. ⌜ r ≡ length (firsts eqV (rows (now (keys .entry)) n)) ⌝ }
     ensures { λ r. ⌜ now (out .exit) ≡ map (λ x. place (eqV x) (firsts eqV (rows (now (keys .entry)) n))) (rows (now (keys .entry)) n) ++ drop n (now (out .entry)) ⌝ }
 {
@@ -81,7 +82,7 @@ pub fn number_table(keys: &[i64], earlier: &[usize], n: usize, out: &mut [u16]) 
     let mut k: usize = 0;
     let mut i: usize = 0;
     while i < n {
-        let b = earlier[i];
+        let b = place_before(i, back);
         let c = row_number(keys, &heads, k, out, b, i);
         heads[k] = i;
         k = one_more(c, k);

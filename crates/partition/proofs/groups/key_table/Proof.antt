@@ -7,20 +7,22 @@ use native.Mathlib.Omega.{arith}
 use lib.ListN.{length, getD, take, set, length-set}
 use lib.IntN.{ℤ}
 use Rattle.integers.specs.Lists.{place}
-use Rattle.integers.specs.Vector.{Vector}
-use Rattle.partition.specs.Basis.{inOneClass, basisFrame}
+use Rattle.integers.specs.Vector.{Vector, minus}
+use Rattle.partition.specs.Basis.{inOneClass, basisFrame, Keyed}
 use Rattle.partition.specs.Grouping.{Frame}
+use Rattle.partition.specs.Projection.{projection}
 use Rattle.partition.specs.Tables.{row}
 use Rattle.partition.proofs.ClassFacts.{class-refl}
-use Rattle.partition.proofs.KeyTable.{Keying, keying-start, keying-more, keying-end, keying-class, key-most, head-low, head-same}
+use Rattle.partition.proofs.KeyTable.{Keying, keying-start, keying-more, keying-end, keying-class, key-copied, key-most, head-low, head-same}
+use Rattle.partition.proofs.Lined.{one-line, line-place, line-keyed}
 use Rattle.partition.proofs.groups.key_table.Statement.{statement}
 use Rattle.partition.proofs.groups.key_table.Tie as tie
 
 abbrev Inv-loop : tie.InvT-loop
-Inv-loop f r points earlier n keys₀ heads₀ k₀ i₀ keys heads k i = (i ≤ n) × (length heads ≡ 4096) × Keying (inOneClass (f .p) (f .count) (f .v1) (f .v2) (f .v3)) (basisFrame (f .p) (f .count) (f .v1) (f .v2) (f .v3) r) (f .count) points keys₀ keys heads k i
+Inv-loop f r points v back n keys₀ heads₀ k₀ i₀ keys heads k i = (i ≤ n) × (length heads ≡ 4096) × Keying (inOneClass (f .p) (f .count) (f .v1) (f .v2) (f .v3)) (basisFrame (f .p) (f .count) (f .v1) (f .v2) (f .v3) r) (f .count) points keys₀ keys heads k i
 
 abbrev μ-loop : tie.MeasureT-loop
-μ-loop f r points earlier n keys₀ heads₀ k₀ i₀ keys heads k i = n - i
+μ-loop f r points v back n keys₀ heads₀ k₀ i₀ keys heads k i = n - i
 
 abbrev At : Type 0
 At = tie.At-loop Inv-loop μ-loop
@@ -47,34 +49,46 @@ points-long d = d .pre .1 .0 .3
 keys-long : (d : Start) → d .args .n * 4 ≤ length (d .args .keys .now)
 keys-long d = d .pre .1 .0 .4
 
-earlier-long : (d : Start) → d .args .n ≤ length (d .args .earlier .now)
-earlier-long d = d .pre .1 .0 .5
-
 -- in a turn, where c is the number of point i's class: it is one of the heads or the next, and the head is in that class
 abbrev Numbers : At → ℕ → Type 0
-Numbers l c = c ≡ place (same (l .before .before) (row (l .before .before .args .points .now) (l .loop .i))) (map (row (l .before .before .args .points .now)) (take (l .loop .k) (l .loop .heads)))
+Numbers l c = c ≡ place (same (l .before) (row (l .before .args .points .now) (l .loop .i))) (map (row (l .before .args .points .now)) (take (l .loop .k) (l .loop .heads)))
 
-room : (l : At) → l .loop .i < l .before .before .args .n → l .loop .k < length (l .loop .heads)
-room l w = omega (arith, w, l .loop .inv .1, few l, n-most (l .before .before))
+room : (l : At) → l .loop .i < l .before .args .n → l .loop .k < length (l .loop .heads)
+room l w = omega (arith, w, l .loop .inv .1, few l, n-most (l .before))
 
-most : (l : At) (c : ℕ) → l .loop .i < l .before .before .args .n → Numbers l c → c ≤ l .loop .k
+most : (l : At) (c : ℕ) → l .loop .i < l .before .args .n → Numbers l c → c ≤ l .loop .k
 most l c w e =
-    let d = l .before .before in
+    let d = l .before in
     key-most (same d) (class-refl (d .pre .0)) (frame d) (d .args .f .count) (d .args .points .now) (d .args .keys .now) (l .loop .keys) (l .loop .heads) (l .loop .k) (l .loop .i) c (l .loop .inv .2) (room l w) (omega (arith, w, n-most d)) e
 
-low : (l : At) (c : ℕ) → l .loop .i < l .before .before .args .n → Numbers l c → getD (set (l .loop .heads) (l .loop .k) (l .loop .i)) c 0 ≤ l .loop .i
+low : (l : At) (c : ℕ) → l .loop .i < l .before .args .n → Numbers l c → getD (set (l .loop .heads) (l .loop .k) (l .loop .i)) c 0 ≤ l .loop .i
 low l c w e =
-    let d = l .before .before in
+    let d = l .before in
     head-low (same d) (class-refl (d .pre .0)) (frame d) (d .args .f .count) (d .args .points .now) (d .args .keys .now) (l .loop .keys) (l .loop .heads) (l .loop .k) (l .loop .i) c (l .loop .inv .2) (room l w) (omega (arith, w, n-most d)) e
 
+-- where v leads from point b to point i, they have one projection
+line : (l : At) (b : ℕ) → (b < l .loop .i → minus (row (l .before .args .points .now) (l .loop .i)) (row (l .before .args .points .now) b) ≡ l .before .args .v) → b < l .loop .i
+    → projection (l .before .args .f .p) (row (l .before .args .points .now) (l .loop .i)) ≡ projection (l .before .args .f .p) (row (l .before .args .points .now) b)
+line l b e h =
+    let d = l .before in
+    one-line (d .args .f .p) (row (d .args .points .now) (l .loop .i)) (row (d .args .points .now) b) (d .args .v) (d .pre .0 .lengths .0) refl refl (d .pre .1 .1 .1) (e h)
+
+-- so the group of point b is that of point i
+copied : (l : At) (c b : ℕ) → Numbers l c → (b < l .loop .i → minus (row (l .before .args .points .now) (l .loop .i)) (row (l .before .args .points .now) b) ≡ l .before .args .v) → b < l .loop .i
+    → Keyed (frame (l .before)) (l .before .args .f .count) c (row (l .before .args .points .now) (l .loop .i)) (row (l .before .args .points .now) (getD (set (l .loop .heads) (l .loop .k) (l .loop .i)) c 0)) (row (l .loop .keys) b)
+copied l c b n e h =
+    let d = l .before in
+    let f = d .args .f in
+    let t = d .args .points .now in
+    key-copied (same d) (frame d) (f .count) t (d .args .keys .now) (l .loop .keys) (l .loop .heads) (l .loop .k) (l .loop .i) c b (l .loop .inv .2) h n
+    (line-place (f .p) (f .v1) (f .v2) (f .v3) (f .count) (row t (l .loop .i)) (row t b) (map (row t) (take (l .loop .k) (l .loop .heads))) (line l b e h))
+    (λ x. line-keyed (frame d) (f .count) c (row t (l .loop .i)) (row t b) x (row (l .loop .keys) b) (line l b e h))
+
 loop-holds : tie.Need-loop-holds Inv-loop μ-loop
-loop-holds c = let d = c .before in (omega arith, refl, keying-start (same d) (frame d) (d .args .f .count) (d .args .points .now) (d .args .keys .now) _)
+loop-holds c = (omega arith, refl, keying-start (same c) (frame c) (c .args .f .count) (c .args .points .now) (c .args .keys .now) _)
 
-mul-b : tie.Need-mul-b Inv-loop μ-loop
-mul-b c = let w = c .loop-test .taken in omega (arith, w, n-most (c .before .before .before))
-
-shared-slice-read-b : tie.Need-shared-slice-read-b Inv-loop μ-loop
-shared-slice-read-b c = let w = c .before .loop-test .taken in omega (arith, w, earlier-long (c .before .before .before .before))
+neighbour-requires : tie.Need-neighbour-requires Inv-loop μ-loop
+neighbour-requires c κs = let d = c .before .before in let w = c .loop-test .taken in (omega (arith, w, points-long d), omega (arith, w, n-most d), d .pre .1 .1 .0)
 
 slice-aggregate-class-of : tie.Need-slice-aggregate-class-of Inv-loop μ-loop
 slice-aggregate-class-of c = sym (c .before .before .before .loop .inv .1)
@@ -82,8 +96,9 @@ slice-aggregate-class-of c = sym (c .before .before .before .loop .inv .1)
 class-of-requires : tie.Need-class-of-requires Inv-loop μ-loop
 class-of-requires c κs =
     let l = c .before .before .before .before in
-    let d = l .before .before in
+    let d = l .before in
     let w = c .before .before .before .loop-test .taken in
+    let x = c .before .before .neighbour in
     let N = l .loop .inv .2 .num in
     let h = l .loop .inv .1 in
     let z = l .loop .inv .2 .size in (
@@ -94,51 +109,59 @@ class-of-requires c κs =
           λ a lt. let q = N .below a lt in (omega (arith, w, q, points-long d), omega (arith, w, q, n-most d)),
           (
             keying-class (same d) (frame d) (d .args .f .count) (d .args .points .now) (d .args .keys .now) (l .loop .keys) (l .loop .heads) (l .loop .k) (l .loop .i) (l .loop .inv .2),
-            d .pre .1 .1,
+            (line l (x .result) (x .ensures .1), d .pre .1 .1 .0),
           ),
         ),
       ),
     )
 
 mul-heads : tie.Need-mul-heads Inv-loop μ-loop
-mul-heads c = let l = c .before .before .before .before .before in let w = c .before .before .before .before .loop-test .taken in omega (arith, w, few l, n-most (l .before .before))
+mul-heads c = let l = c .before .before .before .before .before in let w = c .before .before .before .before .loop-test .taken in omega (arith, w, few l, n-most (l .before))
 
 array-write-heads : tie.Need-array-write-heads Inv-loop μ-loop
-array-write-heads c = let l = c .before .before .before .before .before in let w = c .before .before .before .before .loop-test .taken in omega (arith, w, few l, n-most (l .before .before))
+array-write-heads c = let l = c .before .before .before .before .before in let w = c .before .before .before .before .loop-test .taken in omega (arith, w, few l, n-most (l .before))
 
 one-more-requires : tie.Need-one-more-requires Inv-loop μ-loop
-one-more-requires c κs = let l = c .before .before .before .before .before in let w = c .before .before .before .before .loop-test .taken in omega (arith, w, few l, n-most (l .before .before))
+one-more-requires c κs = let l = c .before .before .before .before .before in let w = c .before .before .before .before .loop-test .taken in omega (arith, w, few l, n-most (l .before))
 
 mul-h : tie.Need-mul-h Inv-loop μ-loop
 mul-h c =
     let l = c .before .before .before .before .before .before in
     let w = c .before .before .before .before .before .loop-test .taken in
     let x = c .before .class-of in
-    omega (arith, w, most l (x .result) w (x .ensures), few l, n-most (l .before .before))
+    omega (arith, w, most l (x .result) w (x .ensures), few l, n-most (l .before))
 
 array-read-h : tie.Need-array-read-h Inv-loop μ-loop
 array-read-h c =
     let l = c .before .before .before .before .before .before in
     let w = c .before .before .before .before .before .loop-test .taken in
     let x = c .before .class-of in
-    omega (arith, w, most l (x .result) w (x .ensures), few l, n-most (l .before .before))
+    omega (arith, w, most l (x .result) w (x .ensures), few l, n-most (l .before))
 
-group-key-requires : tie.Need-group-key-requires Inv-loop μ-loop
-group-key-requires c κs =
-    let l = c .before .before .before .before .before .before in
-    let d = l .before .before in
-    let w = c .before .before .before .before .before .loop-test .taken in
-    let x = c .before .class-of in
+group-of-requires : tie.Need-group-of-requires Inv-loop μ-loop
+group-of-requires c κs =
+    let l = c .before .before .before .before .before .before .before in
+    let d = l .before in
+    let w = c .before .before .before .before .before .before .loop-test .taken in
+    let x = c .before .before .class-of in
+    let y = c .before .before .before .before .before .neighbour in
     let q = most l (x .result) w (x .ensures) in
-    let p = low l (x .result) w (x .ensures) in (
+    let p = low l (x .result) w (x .ensures) in
+    let z = l .loop .inv .2 .size in (
       d .pre .0,
       (
         (d .pre .1 .0 .0, d .pre .1 .0 .1, omega (arith, w, q, few l, n-most d)),
         (
-          (omega (arith, w, points-long d), omega (arith, w, p, points-long d)),
+          (omega (arith, w, points-long d), omega (arith, w, p, points-long d), omega (arith, w, z, keys-long d)),
           (
             (omega (arith, w, n-most d), omega (arith, w, p, n-most d)),
-            (d .pre .1 .1, head-same (same d) (class-refl (d .pre .0)) (frame d) (d .args .f .count) (d .args .points .now) (d .args .keys .now) (l .loop .keys) (l .loop .heads) (l .loop .k) (l .loop .i) (x .result) (l .loop .inv .2) (room l w) (omega (arith, w, n-most d)) (x .ensures)),
+            (
+              d .pre .1 .1 .0,
+              (
+                head-same (same d) (class-refl (d .pre .0)) (frame d) (d .args .f .count) (d .args .points .now) (d .args .keys .now) (l .loop .keys) (l .loop .heads) (l .loop .k) (l .loop .i) (x .result) (l .loop .inv .2) (room l w) (omega (arith, w, n-most d)) (x .ensures),
+                λ h. (copied l (x .result) (y .result) (x .ensures) (y .ensures .1) h, l .loop .inv .2 .within (y .result) h),
+              ),
+            ),
           ),
         ),
       ),
@@ -146,26 +169,26 @@ group-key-requires c κs =
 
 put-row-requires : tie.Need-put-row-requires Inv-loop μ-loop
 put-row-requires c κs =
-    let l = c .before .before .before .before .before .before .before .before in
-    let d = l .before .before in
-    let w = c .before .before .before .before .before .before .before .loop-test .taken in
+    let l = c .before .before .before .before .before .before .before .before .before in
+    let d = l .before in
+    let w = c .before .before .before .before .before .before .before .before .loop-test .taken in
     let z = l .loop .inv .2 .size in
-    ((omega (arith, w, z, keys-long d), omega (arith, w, n-most d)), c .before .group-key .ensures .1)
+    ((omega (arith, w, z, keys-long d), omega (arith, w, n-most d)), c .before .group-of .ensures .1)
 
 add-i : tie.Need-add-i Inv-loop μ-loop
-add-i c = let l = c .before .before .before .before .before .before .before .before .before .before in let w = c .before .before .before .before .before .before .before .before .before .loop-test .taken in omega (arith, w, n-most (l .before .before))
+add-i c = let l = c .before .before .before .before .before .before .before .before .before .before .before in let w = c .before .before .before .before .before .before .before .before .before .before .loop-test .taken in omega (arith, w, n-most (l .before))
 
 loop-less : tie.Need-loop-less Inv-loop μ-loop
-loop-less c = let w = c .before .before .before .before .before .before .before .before .before .loop-test .taken in omega (arith, w)
+loop-less c = let w = c .before .before .before .before .before .before .before .before .before .before .loop-test .taken in omega (arith, w)
 
 loop-again : tie.Need-loop-again Inv-loop μ-loop
 loop-again c =
-    let l = c .before .before .before .before .before .before .before .before .before .before in
-    let d = l .before .before in
-    let w = c .before .before .before .before .before .before .before .before .before .loop-test .taken in
-    let x = c .before .before .before .before .before .class-of in
-    let o = c .before .before .before .before .one-more in
-    let g = c .before .before .before .group-key in
+    let l = c .before .before .before .before .before .before .before .before .before .before .before in
+    let d = l .before in
+    let w = c .before .before .before .before .before .before .before .before .before .before .loop-test .taken in
+    let x = c .before .before .before .before .before .before .class-of in
+    let o = c .before .before .before .before .before .one-more in
+    let g = c .before .before .before .group-of in
     let z = l .loop .inv .2 .size in (
       omega (arith, w),
       length-set (l .loop .heads) (l .loop .k) (l .loop .i) ∙ l .loop .inv .1,
@@ -180,7 +203,7 @@ same-length c = c .before .loop .inv .2 .size
 returns : tie.Need-returns Inv-loop μ-loop
 returns c =
     let l = c .before in
-    let d = l .before .before in
+    let d = l .before in
     let f = d .args .f in
     keying-end (f .p) (f .v1) (f .v2) (f .v3) (f .count) (d .args .r) (d .args .points .now) (d .args .keys .now) (l .loop .keys) (l .loop .heads) (l .loop .k) (l .loop .i) (d .args .n) (l .loop .inv .2) (omega (arith, l .loop .inv .1, few l, n-most d)) (omega arith)
 
@@ -191,8 +214,7 @@ key-table-spec =
     Inv-loop
     μ-loop
     loop-holds
-    mul-b
-    shared-slice-read-b
+    neighbour-requires
     slice-aggregate-class-of
     class-of-requires
     mul-heads
@@ -200,7 +222,7 @@ key-table-spec =
     one-more-requires
     mul-h
     array-read-h
-    group-key-requires
+    group-of-requires
     put-row-requires
     add-i
     loop-less

@@ -1,4 +1,4 @@
--- `shortest` makes no component larger.
+-- `shortest` answers a vector of which p is a multiple, and makes no component larger.
 use mathlib.Core.Path.{_≡_}
 use Prim.Native.Nat.{_≤_}
 use native.Mathlib.Omega.{arith}
@@ -9,6 +9,7 @@ use mir.Val.{toZ}
 use mir.Facts.{toZ-pos}
 use Rattle.integers.specs.Linear.{ints}
 use Rattle.integers.specs.Vector.{all-wider}
+use Rattle.partition.proofs.Lined.{self-along, part-along}
 use Rattle.partition.proofs.inputs.shortest.Statement.{statement}
 use Rattle.partition.proofs.inputs.shortest.Tie as tie
 
@@ -38,10 +39,14 @@ divided-requires : tie.Need-divided-requires Inv-loop μ-loop
 divided-requires c κs =
     let l = c .before .before .before in
     let i = l .loop .inv in
-    rw (g-is l) (l .before .pre, omega (ints, i .0), i .1)
+    let v = c .before .serves .ensures .0 (c .if1 .taken) in
+    (l .before .pre, rw (g-is l) (omega (ints, i .0)), rw (g-is l) (i .1), v)
 
 returns : tie.Need-returns Inv-loop μ-loop
-returns c = c .divided .ensures
+returns c =
+    let l = c .before .before .before .before in
+    let e = c .divided .ensures in
+    (e .0, part-along (l .before .args .p) (c .divided .result) _ (omega arith) (e .1))
 
 sub-g : tie.Need-sub-g Inv-loop μ-loop
 sub-g c = let i = c .before .before .before .loop .inv in omega (arith, i .0)
@@ -53,7 +58,7 @@ loop-again : tie.Need-loop-again Inv-loop μ-loop
 loop-again c = let i = c .before .before .before .loop .inv in let w = c .before .before .loop-test .taken in (omega (arith, w), omega (arith, i .1))
 
 returns-2 : tie.Need-returns-2 Inv-loop μ-loop
-returns-2 c = c .before .before .pre
+returns-2 c = let d = c .before .before in (d .pre, self-along (d .args .p) (omega arith))
 
 pub shortest-spec : {M : Type 1} → statement M
 shortest-spec =
