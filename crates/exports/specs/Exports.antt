@@ -24,7 +24,7 @@ countsIn a = a .iterations ∷ a .steps ∷ a .blocks ∷ a .processors ∷ a .m
 
 -- the move that is asked for: kind 0 is a compute on a processor, any other a delivery for a rank along a dependence
 unfoldable pub moveIn : ℕ → ℕ → ℕ → Move
-moveIn kind a b = elim (eqb kind 0) [ true ↦ Compute a | false ↦ Deliver a b ]
+moveIn kind a b = elim (eqb kind 0) [ true ↦ Compute a | false ↦ Deliver (record { rank = a; dependence = b }) ]
 
 -- what an answer carries: the rank and the value of an iteration that was computed, the rank and the dependence number of a message that was delivered; zeros where refused
 unfoldable pub madeIn : Answer → List ℕ

@@ -8,6 +8,7 @@
 //         int64_t boundary, weights[8];
 //     };
 use execution::Answer;
+use execution::Delivery;
 use execution::Move;
 use execution::Request;
 use nest::LoopNest;
@@ -114,12 +115,12 @@ fn move_in(kind: usize, first: usize, second: usize) -> Move
     ensures { λ r. ⌜ r ≡ moveIn kind first second ⌝ }
 {
     if kind == 0 {
-        return Move::Compute { processor: first };
+        return Move::Compute(first);
     }
-    Move::Deliver {
+    Move::Deliver(Delivery {
         rank: first,
         dependence: second,
-    }
+    })
 }
 
 // The number of an answer: 0 for a move that is made.

@@ -74,8 +74,7 @@ module _ (f : ℕ → Limit) (n : ℕ) (fine : (k : ℕ) → k < n → f k .lowe
   before (suc k) l e =
       let r = before k (omega arith) (λ j c. e j (omega arith)) in
       let m : k < n = omega arith in
-      let q : k + 1 ≡ suc k = add-one k in
-      (
+      let q : k + 1 ≡ suc k = add-one k in (
         rankWith (r .0) (f k) (g k),
         r .1 ∙ onward-more f g n k (r .0) m ∙ ap (λ i. onward (rankWith (r .0) (f k) (g k)) (drop i (tab f n)) (drop i (tab g n))) q,
         r .2 ∙ onward-more f h n k (r .0) m ∙ ap₂ (λ (x : ℤ) (i : ℕ). onward (rankWith (r .0) (f k) x) (drop i (tab f n)) (drop i (tab h n))) (e k (omega arith)) q,
@@ -112,11 +111,11 @@ module _ (lower upper : List ℤ) (n : ℕ) (point next : List ℤ) (k : ℕ) (C
     size = length-set next k (getD lower k (pos 0)) ∙ C .size;
     kept = λ i b. getD-set-other next k i (getD lower k (pos 0)) (pos 0) (λ e. absurd (omega arith)) ∙ C .kept i (omega arith);
     reset = λ i a b. split (eqb i k)
-      (λ t. let e = eqb-true i k t in (
+        (λ t. let e = eqb-true i k t in (
           ap (λ j. getD (set next k (getD lower k (pos 0))) j (pos 0)) e ∙ getD-set-same next k (getD lower k (pos 0)) (pos 0) room ∙ ap (λ j. getD lower j (pos 0)) (sym e),
           subst (λ j. getD upper j (pos 0) ≤ℤ getD point j (pos 0)) (sym e) (subst (λ (z : ℤ). getD upper k (pos 0) ≤ℤ z) (C .kept k (omega arith)) h),
         ))
-      (λ t. let e = eqb-false i k t in let q = C .reset i (omega (arith, e)) b in (getD-set-other next k i (getD lower k (pos 0)) (pos 0) e ∙ q .0, q .1));
+        (λ t. let e = eqb-false i k t in let q = C .reset i (omega (arith, e)) b in (getD-set-other next k i (getD lower k (pos 0)) (pos 0) e ∙ q .0, q .1));
     rest = λ i b. getD-set-other next k i (getD lower k (pos 0)) (pos 0) (λ e. absurd (omega arith)) ∙ C .rest i b;
   }
 
@@ -124,7 +123,7 @@ module _ (lower upper : List ℤ) (n : ℕ) (point next : List ℤ) (k : ℕ) (C
 
 -- the point of rank r stands in an array, with 0 behind it
 module _ (lower upper : List ℤ) (n : ℕ) (few : n ≤ maxDepth) (fine : any crossed (tab (limitAt lower upper) n) ≡ false) (point : List ℤ) (r : ℕ) (h : r + 1 < pointCount (tab (limitAt lower upper) n))
-  (e : point ≡ padded maxDepth (getD (points (tab (limitAt lower upper) n)) r [])) where
+    (e : point ≡ padded maxDepth (getD (points (tab (limitAt lower upper) n)) r [])) where
   abbrev f : ℕ → Limit
   f = limitAt lower upper
 

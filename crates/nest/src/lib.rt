@@ -575,10 +575,7 @@ fn next_within(
 }
 
 // The index point behind one of an accepted nest in loop order, with 0 in the places behind the depth.
-pub fn next_point(
-    s: LoopNest,
-    point: [i64; LoopNest::MAX_DEPTH],
-) -> [i64; LoopNest::MAX_DEPTH]
+pub fn next_point(s: LoopNest, point: [i64; LoopNest::MAX_DEPTH]) -> [i64; LoopNest::MAX_DEPTH]
     requires { ⌜ refusal s ≡ 0 ⌝ }
     ensures { λ p. ⌜ ((r : ℕ) → r + 1 < length (pointsOf s) → point ≡ padded maxDepth (getD (pointsOf s) r []) → p ≡ padded maxDepth (getD (pointsOf s) (r + 1) [])) ⌝ }
 {

@@ -119,7 +119,7 @@ loop-again c =
     let t = rw (x, u) at (c .before .if1 .left) in (
       omega (arith, l .inv .0),
       subst (λ (z : ℤ). Carried (a .t1) (a .t2) (a .n) (a .point) k (set (l .next) k z)) (sym low)
-      (carried-more (a .t1) (a .t2) (a .n) (a .point) (l .next) k (at-next d) (below d) (room d) (omega signed)),
+          (carried-more (a .t1) (a .t2) (a .n) (a .point) (l .next) k (at-next d) (below d) (room d) (omega signed)),
     )
 
 returns-2 : tie.Need-returns-2 Inv-loop μ-loop
