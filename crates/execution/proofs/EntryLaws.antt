@@ -1,6 +1,6 @@
 -- The ways out of a compute, of a delivery and of the entry that makes a move: what is answered and what the buffers hold, over plain lists and numbers.
 -- Assumes nothing.
-use mathlib.Core.Path.{_≡_, refl, sym, ap, ap₂, _∙_}
+use mathlib.Core.Path.{_≡_, refl, sym, ap, _∙_}
 use mathlib.Core.Bool.{Bool, true, false, not, _&&_}
 use mathlib.Core.List.{List, []}
 use mathlib.Core.Logic.{_≢_, inl, inr}
@@ -22,9 +22,9 @@ use Rattle.planner.proofs.PlanLaws.{enough, all-enough}
 use Rattle.execution.specs.declared.Answer.{Answer}
 use Rattle.execution.specs.declared.Answer.the-variants.{Computed, Delivered, Refused}
 use Rattle.execution.specs.Rules.{every, Move, compute, deliver, Effect, refuse, iteration, message, answer, Layout, View, there, sourceDone, ready, taking, effect}
-use Rattle.execution.specs.Run.{State, bit, withValue, withBit, moveRefusal, stateRefusal, moveEffect, moveAnswer, after, moveAfter}
+use Rattle.execution.specs.Run.{State, bit, moveRefusal, stateRefusal, moveEffect, moveAnswer, after, moveAfter}
 use Rattle.execution.specs.Entry.{layoutIn, stateIn, viewIn, rankOr, numberOf, answerOf}
-use Rattle.execution.proofs.Base.{and-left, and-right, every-same}
+use Rattle.execution.proofs.Base.{and-right, every-same}
 use Rattle.execution.proofs.RuleLaws.{taking-none, taking-ready, taking-waits, delivering-ready, delivering-refused, compute-there, compute-nowhere, deliver-there, deliver-nowhere}
 use Rattle.execution.proofs.FindingLaws.{takenOf, taken-none, taken-some}
 
@@ -65,13 +65,15 @@ delivers s values done delivered k i x e = (refl, ap (λ z. stateIn values done 
 
 -- ---- the ways out of a compute on processor p
 module _ (s : LoopNest) (steps processors values done delivered : List ℕ) (n : ℕ) (count : n ≡ length (pointsOf s)) (p : ℕ) where
-  -- what the move looks at, and what it comes to
+  -- what the move looks at
   abbrev view : View
   view = viewIn steps processors done delivered
 
+  -- the state that it finds
   abbrev state : State ℕ
   state = stateIn values done delivered
 
+  -- what it answers, and the state that it leaves
   abbrev pub Computes : Answer → State ℕ → Type 0
   Computes r st′ = Done s state (effect s view (compute p)) r st′
 
@@ -96,6 +98,7 @@ module _ (s : LoopNest) (steps processors values done delivered : List ℕ) (n :
     same-there i none = refl
     same-there i (some j) = refl
 
+    -- so it comes out the same
     all-same : (b : Bool) → b ≡ every (λ i. there (viewIn [] processors done delivered) p k i (sourceRank s k i)) (countOf s) → every (λ i. there view p k i (sourceRank s k i)) (countOf s) ≡ b
     all-same b q = sym (q ∙ every-same (λ i. there (viewIn [] processors done delivered) p k i (sourceRank s k i)) (λ i. there view p k i (sourceRank s k i)) (countOf s) (λ i l. same-there i (sourceRank s k i)))
 
@@ -140,6 +143,7 @@ module _ (s : LoopNest) (processors done delivered : List ℕ) (n : ℕ) (count 
   same-source steps none = refl
   same-source steps (some j) = refl
 
+  -- so it comes out the same
   same-ready : (steps : List ℕ) (b : Bool) → b ≡ ready s (viewIn [] processors done delivered) k i → ready s (viewIn steps processors done delivered) k i ≡ b
   same-ready steps b q = sym (q ∙ ap (λ d. isMessage s processors k i && (d && not (bit i (getD delivered k 0)))) (same-source steps (sourceRank s k i)))
 
@@ -165,10 +169,11 @@ module _ (s : LoopNest) (processors done delivered : List ℕ) (n : ℕ) (count 
 
 -- ---- the ways out of the entry
 module _ (s : LoopNest) (steps processors values done delivered : List ℕ) (mv : Move) where
-  -- the layout and the state that the entry finds
+  -- the layout that the entry finds
   abbrev L : Layout
   L = layoutIn steps processors
 
+  -- the state that it finds
   abbrev st : State ℕ
   st = stateIn values done delivered
 
@@ -182,11 +187,12 @@ module _ (s : LoopNest) (steps processors values done delivered : List ℕ) (mv 
       let f = by-effect s st (moveEffect s L st mv) x r st′ e d in
       (f .0, (ap numberOf (f .0) ∙ number-answer s values (moveEffect s L st mv), f .1))
 
-  -- refused before the rules
+  -- a refusal before the rules is the effect
   effect-refused : stateRefusal s L st ≢ 0 → moveEffect s L st mv ≡ refuse (stateRefusal s L st)
   unfolding moveEffect
   effect-refused h = rw (ne-eqb (stateRefusal s L st) 0 h, moveEffect) refl
 
+  -- and the answer
   refused-before : (a : ℕ) → stateRefusal s L st ≡ a → a ≢ 0 → Made (Refused a) st
   refused-before a e h = made-by (refuse a) (Refused a) st (effect-refused (λ z. h (sym e ∙ z)) ∙ ap refuse e) (refused s st a)
 
@@ -199,10 +205,11 @@ module _ (s : LoopNest) (steps processors values done delivered : List ℕ) (mv 
       (orElse-first (refusal s) (orElse (noRoom n (length steps) (length processors) (length values) (length done)) (shortBuffer n (length delivered))) (λ z. h (e ∙ z)) ∙ sym e) h
 
   module _ (ok : refusal s ≡ 0) (n : ℕ) (count : n ≡ length (pointsOf s)) where
-    -- it lies with the buffers
+    -- the number that the buffers give
     abbrev pub room : ℕ
     room = orElse (noRoom n (length steps) (length processors) (length values) (length done)) (shortBuffer n (length delivered))
 
+    -- it decides
     behind : stateRefusal s L st ≡ room
     unfolding moveRefusal
     behind =
