@@ -7,7 +7,7 @@ use mathlib.Core.Logic.{_≢_, inl, inr}
 use mathlib.Core.Option.{Option, none, some}
 use Prim.Native.Nat.{ℕ, _+_, _^_, _≤_, _<_}
 use native.Mathlib.Omega.{arith}
-use borrow.Author.Tests.{ne-eqb, not-true}
+use borrow.Author.Tests.{eq-eqb, ne-eqb, not-true}
 use lib.ListN.{length, getD, set}
 use Rattle.nest.specs.declared.LoopNest.{LoopNest}
 use Rattle.nest.specs.Nest.{toℕ, countOf}
@@ -22,10 +22,10 @@ use Rattle.planner.proofs.PlanLaws.{enough, all-enough}
 use Rattle.execution.specs.declared.Answer.{Answer}
 use Rattle.execution.specs.declared.Answer.the-variants.{Computed, Delivered, Refused}
 use Rattle.execution.specs.Rules.{every, Move, compute, deliver, Effect, refuse, iteration, message, answer, Layout, View, there, sourceDone, ready, taking, effect}
-use Rattle.execution.specs.Run.{State, bit, moveRefusal, stateRefusal, moveEffect, moveAnswer, after, moveAfter}
+use Rattle.execution.specs.Run.{State, bit, stateView, moveRefusal, stateRefusal, moveEffect, moveAnswer, after, moveAfter}
 use Rattle.execution.specs.Entry.{layoutIn, stateIn, viewIn, rankOr, numberOf, answerOf}
-use Rattle.execution.proofs.Base.{and-right, every-same}
-use Rattle.execution.proofs.RuleLaws.{taking-none, taking-ready, taking-waits, delivering-ready, delivering-refused, compute-there, compute-nowhere, deliver-there, deliver-nowhere}
+use Rattle.execution.proofs.Base.{eq?, and-right, every-same}
+use Rattle.execution.proofs.RuleLaws.{effect-number, Numbered, taking-none, taking-ready, taking-waits, delivering-ready, delivering-refused, compute-there, compute-nowhere, deliver-there, deliver-nowhere}
 use Rattle.execution.proofs.FindingLaws.{takenOf, taken-none, taken-some}
 
 -- ---- by the effect
@@ -237,3 +237,37 @@ module _ (s : LoopNest) (steps processors values done delivered : List ℕ) (mv 
     made-move e mv₀ q r st′ d =
         let v = viewIn steps processors done delivered in
         made-by (effect s v mv₀) r st′ (effect-ruled (behind ∙ e) ∙ ap (effect s v) q) d
+
+-- ---- a refused answer has a number other than 0
+
+-- so has a refused effect
+abbrev Numbers : Effect → Type 0
+Numbers (refuse a) = a ≢ 0
+Numbers (iteration k) = Unit {0}
+Numbers (message k i) = Unit {0}
+
+-- by the rules
+rules-number : (s : LoopNest) (v : View) (mv : Move) → Numbers (effect s v mv)
+rules-number s v mv = go (effect s v mv) (effect-number s v mv)
+  where
+    go : (x : Effect) → Numbered s v mv x → Numbers x
+    go (refuse a) h = λ z. absurd (omega (arith, h .0))
+    go (iteration k) h = tt
+    go (message k i) h = tt
+
+-- on any buffers
+effect-numbers : (s : LoopNest) (L : Layout) (st : State ℕ) (mv : Move) → Numbers (moveEffect s L st mv)
+unfolding moveEffect
+effect-numbers s L st mv = eq? (stateRefusal s L st) 0
+    (λ e. rw (eq-eqb (stateRefusal s L st) 0 e, moveEffect) (rules-number s (stateView L st) mv))
+    (λ e. rw (ne-eqb (stateRefusal s L st) 0 e, moveEffect) e)
+
+-- and so the entry's
+pub refused-number : (s : LoopNest) (L : Layout) (st : State ℕ) (mv : Move) (a : ℕ) → Refused a ≡ answerOf s (st .values) (moveEffect s L st mv) → a ≢ 0
+unfolding answerOf
+refused-number s L st mv a e = go (moveEffect s L st mv) (effect-numbers s L st mv) e
+  where
+    go : (x : Effect) → Numbers x → Refused a ≡ answerOf s (st .values) x → a ≢ 0
+    go (refuse b) h q = λ z. h (sym (ap numberOf q) ∙ z)
+    go (iteration k) h q = λ z. let w : _≡_ {A = ℕ} 0 1 = cc in absurd (omega arith)
+    go (message k i) h q = λ z. let w : _≡_ {A = ℕ} 0 1 = cc in absurd (omega arith)
