@@ -1,13 +1,13 @@
 -- The ways out of a compute, of a delivery and of the entry that makes a move: what is answered and what the buffers hold, over plain lists and numbers.
 -- Assumes nothing.
-use mathlib.Core.Path.{_≡_, refl, sym, ap, ap₂, _∙_}
+use mathlib.Core.Path.{_≡_, refl, sym, ap, _∙_}
 use mathlib.Core.Bool.{Bool, true, false, not, _&&_}
 use mathlib.Core.List.{List, []}
 use mathlib.Core.Logic.{_≢_, inl, inr}
 use mathlib.Core.Option.{Option, none, some}
 use Prim.Native.Nat.{ℕ, _+_, _^_, _≤_, _<_}
 use native.Mathlib.Omega.{arith}
-use borrow.Author.Tests.{ne-eqb, not-true}
+use borrow.Author.Tests.{eq-eqb, ne-eqb, not-true}
 use lib.ListN.{length, getD, set}
 use Rattle.nest.specs.declared.LoopNest.{LoopNest}
 use Rattle.nest.specs.Nest.{toℕ, countOf}
@@ -22,10 +22,10 @@ use Rattle.planner.proofs.PlanLaws.{enough, all-enough}
 use Rattle.execution.specs.declared.Answer.{Answer}
 use Rattle.execution.specs.declared.Answer.the-variants.{Computed, Delivered, Refused}
 use Rattle.execution.specs.Rules.{every, Move, compute, deliver, Effect, refuse, iteration, message, answer, Layout, View, there, sourceDone, ready, taking, effect}
-use Rattle.execution.specs.Run.{State, bit, withValue, withBit, moveRefusal, stateRefusal, moveEffect, moveAnswer, after, moveAfter}
+use Rattle.execution.specs.Run.{State, bit, stateView, moveRefusal, stateRefusal, moveEffect, moveAnswer, after, moveAfter}
 use Rattle.execution.specs.Entry.{layoutIn, stateIn, viewIn, rankOr, numberOf, answerOf}
-use Rattle.execution.proofs.Base.{and-left, and-right, every-same}
-use Rattle.execution.proofs.RuleLaws.{taking-none, taking-ready, taking-waits, delivering-ready, delivering-refused, compute-there, compute-nowhere, deliver-there, deliver-nowhere}
+use Rattle.execution.proofs.Base.{eq?, and-right, every-same}
+use Rattle.execution.proofs.RuleLaws.{effect-number, Numbered, taking-none, taking-ready, taking-waits, delivering-ready, delivering-refused, compute-there, compute-nowhere, deliver-there, deliver-nowhere}
 use Rattle.execution.proofs.FindingLaws.{takenOf, taken-none, taken-some}
 
 -- ---- by the effect
@@ -65,13 +65,15 @@ delivers s values done delivered k i x e = (refl, ap (λ z. stateIn values done 
 
 -- ---- the ways out of a compute on processor p
 module _ (s : LoopNest) (steps processors values done delivered : List ℕ) (n : ℕ) (count : n ≡ length (pointsOf s)) (p : ℕ) where
-  -- what the move looks at, and what it comes to
+  -- what the move looks at
   abbrev view : View
   view = viewIn steps processors done delivered
 
+  -- the state that it finds
   abbrev state : State ℕ
   state = stateIn values done delivered
 
+  -- what it answers, and the state that it leaves
   abbrev pub Computes : Answer → State ℕ → Type 0
   Computes r st′ = Done s state (effect s view (compute p)) r st′
 
@@ -96,6 +98,7 @@ module _ (s : LoopNest) (steps processors values done delivered : List ℕ) (n :
     same-there i none = refl
     same-there i (some j) = refl
 
+    -- so it comes out the same
     all-same : (b : Bool) → b ≡ every (λ i. there (viewIn [] processors done delivered) p k i (sourceRank s k i)) (countOf s) → every (λ i. there view p k i (sourceRank s k i)) (countOf s) ≡ b
     all-same b q = sym (q ∙ every-same (λ i. there (viewIn [] processors done delivered) p k i (sourceRank s k i)) (λ i. there view p k i (sourceRank s k i)) (countOf s) (λ i l. same-there i (sourceRank s k i)))
 
@@ -140,6 +143,7 @@ module _ (s : LoopNest) (processors done delivered : List ℕ) (n : ℕ) (count 
   same-source steps none = refl
   same-source steps (some j) = refl
 
+  -- so it comes out the same
   same-ready : (steps : List ℕ) (b : Bool) → b ≡ ready s (viewIn [] processors done delivered) k i → ready s (viewIn steps processors done delivered) k i ≡ b
   same-ready steps b q = sym (q ∙ ap (λ d. isMessage s processors k i && (d && not (bit i (getD delivered k 0)))) (same-source steps (sourceRank s k i)))
 
@@ -165,10 +169,11 @@ module _ (s : LoopNest) (processors done delivered : List ℕ) (n : ℕ) (count 
 
 -- ---- the ways out of the entry
 module _ (s : LoopNest) (steps processors values done delivered : List ℕ) (mv : Move) where
-  -- the layout and the state that the entry finds
+  -- the layout that the entry finds
   abbrev L : Layout
   L = layoutIn steps processors
 
+  -- the state that it finds
   abbrev st : State ℕ
   st = stateIn values done delivered
 
@@ -182,11 +187,12 @@ module _ (s : LoopNest) (steps processors values done delivered : List ℕ) (mv 
       let f = by-effect s st (moveEffect s L st mv) x r st′ e d in
       (f .0, (ap numberOf (f .0) ∙ number-answer s values (moveEffect s L st mv), f .1))
 
-  -- refused before the rules
+  -- a refusal before the rules is the effect
   effect-refused : stateRefusal s L st ≢ 0 → moveEffect s L st mv ≡ refuse (stateRefusal s L st)
   unfolding moveEffect
   effect-refused h = rw (ne-eqb (stateRefusal s L st) 0 h, moveEffect) refl
 
+  -- and the answer
   refused-before : (a : ℕ) → stateRefusal s L st ≡ a → a ≢ 0 → Made (Refused a) st
   refused-before a e h = made-by (refuse a) (Refused a) st (effect-refused (λ z. h (sym e ∙ z)) ∙ ap refuse e) (refused s st a)
 
@@ -199,10 +205,11 @@ module _ (s : LoopNest) (steps processors values done delivered : List ℕ) (mv 
       (orElse-first (refusal s) (orElse (noRoom n (length steps) (length processors) (length values) (length done)) (shortBuffer n (length delivered))) (λ z. h (e ∙ z)) ∙ sym e) h
 
   module _ (ok : refusal s ≡ 0) (n : ℕ) (count : n ≡ length (pointsOf s)) where
-    -- it lies with the buffers
+    -- the number that the buffers give
     abbrev pub room : ℕ
     room = orElse (noRoom n (length steps) (length processors) (length values) (length done)) (shortBuffer n (length delivered))
 
+    -- it decides
     behind : stateRefusal s L st ≡ room
     unfolding moveRefusal
     behind =
@@ -230,3 +237,37 @@ module _ (s : LoopNest) (steps processors values done delivered : List ℕ) (mv 
     made-move e mv₀ q r st′ d =
         let v = viewIn steps processors done delivered in
         made-by (effect s v mv₀) r st′ (effect-ruled (behind ∙ e) ∙ ap (effect s v) q) d
+
+-- ---- a refused answer has a number other than 0
+
+-- so has a refused effect
+abbrev Numbers : Effect → Type 0
+Numbers (refuse a) = a ≢ 0
+Numbers (iteration k) = Unit {0}
+Numbers (message k i) = Unit {0}
+
+-- by the rules
+rules-number : (s : LoopNest) (v : View) (mv : Move) → Numbers (effect s v mv)
+rules-number s v mv = go (effect s v mv) (effect-number s v mv)
+  where
+    go : (x : Effect) → Numbered s v mv x → Numbers x
+    go (refuse a) h = λ z. absurd (omega (arith, h .0))
+    go (iteration k) h = tt
+    go (message k i) h = tt
+
+-- on any buffers
+effect-numbers : (s : LoopNest) (L : Layout) (st : State ℕ) (mv : Move) → Numbers (moveEffect s L st mv)
+unfolding moveEffect
+effect-numbers s L st mv = eq? (stateRefusal s L st) 0
+    (λ e. rw (eq-eqb (stateRefusal s L st) 0 e, moveEffect) (rules-number s (stateView L st) mv))
+    (λ e. rw (ne-eqb (stateRefusal s L st) 0 e, moveEffect) e)
+
+-- and so the entry's
+pub refused-number : (s : LoopNest) (L : Layout) (st : State ℕ) (mv : Move) (a : ℕ) → Refused a ≡ answerOf s (st .values) (moveEffect s L st mv) → a ≢ 0
+unfolding answerOf
+refused-number s L st mv a e = go (moveEffect s L st mv) (effect-numbers s L st mv) e
+  where
+    go : (x : Effect) → Numbers x → Refused a ≡ answerOf s (st .values) x → a ≢ 0
+    go (refuse b) h q = λ z. h (sym (ap numberOf q) ∙ z)
+    go (iteration k) h q = λ z. let w : _≡_ {A = ℕ} 0 1 = cc in absurd (omega arith)
+    go (message k i) h q = λ z. let w : _≡_ {A = ℕ} 0 1 = cc in absurd (omega arith)

@@ -5,21 +5,18 @@ use mathlib.Core.Bool.{Bool, true, false, not, _&&_}
 use mathlib.Core.List.{List, []}
 use mathlib.Core.Logic.{_≢_}
 use mathlib.Core.Option.{Option, none, some}
-use Prim.Native.Nat.{ℕ, _+_, _*_, _/_, _%_, _^_, _≤_, _<_}
-use native.Mathlib.Nat.{one-mul}
+use Prim.Native.Nat.{ℕ, _+_, _/_, _≤_, _<_}
 use native.Mathlib.Omega.{arith}
 use borrow.Author.Tests.{lt-ltb, le-ltb, eq-eqb, ne-eqb}
 use lib.Dec.{eqb, ltb}
 use lib.IntN.{ℤ}
 use lib.ListN.{length, getD}
-use lib.Pow.{pow-mono}
 use Rattle.nest.specs.declared.LoopNest.{LoopNest}
-use Rattle.nest.specs.Nest.{part, padded, depthOf, countOf, maxDepth}
+use Rattle.nest.specs.Nest.{part, padded, depthOf, maxDepth}
 use Rattle.nest.specs.Points.{pointsOf, rank, source}
 use Rattle.nest.specs.Refusals.{dependence}
 use Rattle.nest.specs.Sources.{sourceRank}
 use Rattle.sequential.proofs.SourceLaws.{source-found, source-none}
-use Rattle.mapping.specs.Mapping.{isMessage}
 use Rattle.execution.specs.Rules.{every, better, least, View, stepIn, waits, there, sourceDone, ready}
 use Rattle.execution.specs.Run.{bit}
 use Rattle.execution.specs.Entry.{viewIn, rankOr}
@@ -107,10 +104,11 @@ module _ (steps processors done : List ℕ) (n p : ℕ) where
   pub found-end : (k best : ℕ) → k ≤ n → n ≤ k → best ≡ rankOr n (takenOf k) → best ≡ rankOr n (takenOf n)
   found-end k best h g e = let q : k ≡ n = omega arith in e ∙ ap (λ z. rankOr n (takenOf z)) q
 
-  -- the search's answer as an iteration, or as none
+  -- the answer n: there is none
   pub taken-none : (k : ℕ) → k ≡ rankOr n (takenOf n) → n ≤ k → takenOf n ≡ none
   taken-none k e h = opt (takenOf n) (λ q. q) (λ j q. absurd (let l = taken-below n j q in let z : k ≡ j = e ∙ ap (rankOr n) q in omega arith))
 
+  -- any other answer is the iteration taken
   pub taken-some : (k : ℕ) → k ≡ rankOr n (takenOf n) → k < n → takenOf n ≡ some k
   taken-some k e h = opt (takenOf n) (λ q. absurd (let z : k ≡ n = e ∙ ap (rankOr n) q in omega arith)) (λ j q. let z : j ≡ k = sym (e ∙ ap (rankOr n) q) in q ∙ ap some z)
 
@@ -122,10 +120,11 @@ module _ (s : LoopNest) (k i j : ℕ) (point : List ℤ) (n : ℕ) (count : n �
   abbrev view : View
   view = viewIn [] processors done delivered
 
-  -- the source is an iteration, or not
+  -- the source is an iteration
   found : j < n → sourceRank s k i ≡ some j
   found l = source-found s k i j point (omega arith) at e (omega arith)
 
+  -- it is none
   missing : n ≤ j → sourceRank s k i ≡ none
   missing l = source-none s k i j point (omega arith) at e (omega arith)
 

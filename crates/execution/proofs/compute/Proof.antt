@@ -9,7 +9,8 @@ processors-in-requires : tie.Need-processors-in-requires
 processors-in-requires c κs = search needs
 
 returns : tie.Need-returns
-returns c = let t = c .before .before .before .before .before .before .before in
+returns c =
+    let t = c .before .before .before .before .before .before .before in
     let a = t .args in
     no-processor (a .s) (a .steps .now) (a .processors .now) (a .values .now) (a .done .now) (a .delivered .now) (a .n) (t .pre .0 .1) (a .p) (c .before .processors-in .result) (c .before .processors-in .ensures .0) (c .if1 .taken)
 
@@ -23,7 +24,8 @@ same-length : tie.Need-same-length
 same-length c = search needs
 
 returns-2 : tie.Need-returns-2
-returns-2 c = let t = c .before .before .before .before .before .before .before .before .before .before in
+returns-2 c =
+    let t = c .before .before .before .before .before .before .before .before .before .before in
     let a = t .args in
     idle (a .s) (a .steps .now) (a .processors .now) (a .values .now) (a .done .now) (a .delivered .now) (a .n) (t .pre .0 .1) (a .p) (c .before .before .before .before .processors-in .result) (c .before .next-iteration .result) (c .before .before .before .before .processors-in .ensures .0) (c .before .before .before .if1 .left) (c .before .next-iteration .ensures) (c .if2 .taken)
 
@@ -34,7 +36,8 @@ same-length-2 : tie.Need-same-length-2
 same-length-2 c = search needs
 
 returns-3 : tie.Need-returns-3
-returns-3 c = let t = c .before .before .before .before .before .before .before .before .before .before .before .before .before in
+returns-3 c =
+    let t = c .before .before .before .before .before .before .before .before .before .before .before .before .before in
     let a = t .args in
     waiting (a .s) (a .steps .now) (a .processors .now) (a .values .now) (a .done .now) (a .delivered .now) (a .n) (t .pre .0 .1) (a .p) (c .before .before .before .before .before .before .before .processors-in .result) (c .before .before .before .before .next-iteration .result) (c .before .before .before .before .before .before .before .processors-in .ensures .0) (c .before .before .before .before .before .before .if1 .left) (c .before .before .before .before .next-iteration .ensures) (c .before .all-there .result) (c .before .before .before .if2 .left) (c .before .all-there .ensures) (not-true _ (c .if3 .taken))
 
@@ -57,7 +60,8 @@ same-length-4 : tie.Need-same-length-4
 same-length-4 c = search needs
 
 returns-4 : tie.Need-returns-4
-returns-4 c = let t = c .before .before .before .before .before .before .before .before .before .before .before .before .before .before .before in
+returns-4 c =
+    let t = c .before .before .before .before .before .before .before .before .before .before .before .before .before .before .before in
     let a = t .args in
     computes (a .s) (a .steps .now) (a .processors .now) (a .values .now) (a .done .now) (a .delivered .now) (a .n) (t .pre .0 .1) (a .p) (c .before .before .before .before .before .before .before .before .before .processors-in .result) (c .before .before .before .before .before .before .next-iteration .result) (c .before .before .before .before .before .before .before .before .before .processors-in .ensures .0) (c .before .before .before .before .before .before .before .before .if1 .left) (c .before .before .before .before .before .before .next-iteration .ensures) (c .before .before .before .all-there .result) (c .value-at .result) (c .before .before .before .before .before .if2 .left) (c .before .before .before .all-there .ensures) (not-false _ (c .before .before .if3 .left)) (c .value-at .ensures)
 

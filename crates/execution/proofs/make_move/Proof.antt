@@ -39,7 +39,8 @@ inspect-requires : tie.Need-inspect-requires
 inspect-requires c κs = search needs
 
 returns : tie.Need-returns
-returns c = let i = c .before in
+returns c =
+    let i = c .before in
     let a = start i .args in
     refused-nest (a .s) (a .steps .now) (a .processors .now) (a .values .now) (a .done .now) (a .delivered .now) (moveOf (a .request .what)) (i .inspect .result .refusal) (number i) (c .if1 .taken)
 
@@ -47,7 +48,8 @@ check-buffers-requires : tie.Need-check-buffers-requires
 check-buffers-requires c κs = search needs
 
 returns-2 : tie.Need-returns-2
-returns-2 c = let e = c .before .before in
+returns-2 c =
+    let e = c .before .before in
     let i = e .before in
     let a = start i .args in
     short-buffer (a .s) (a .steps .now) (a .processors .now) (a .values .now) (a .done .now) (a .delivered .now) (moveOf (a .request .what)) (accepted e) (i .inspect .result .iterations) (count e) (c .before .check-buffers .result) (c .before .check-buffers .ensures) (c .if2 .taken)
@@ -56,7 +58,8 @@ enum-known-what : tie.Need-enum-known-what
 enum-known-what c = search needs
 
 compute-requires : tie.Need-compute-requires
-compute-requires c κs = let t = c .before .before .before .before .before .before in
+compute-requires c κs =
+    let t = c .before .before .before .before .before .before in
     let e = t .before .before in
     let i = e .before in
     let a = start i .args in
@@ -67,7 +70,8 @@ enum-known-what-2 : tie.Need-enum-known-what-2
 enum-known-what-2 c = search needs
 
 deliver-requires : tie.Need-deliver-requires
-deliver-requires c κs = let t = c .before .before .before .before .before in
+deliver-requires c κs =
+    let t = c .before .before .before .before .before in
     let e = t .before .before in
     let i = e .before in
     let a = start i .args in

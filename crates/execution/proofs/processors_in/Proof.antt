@@ -25,7 +25,8 @@ shl-result : tie.Need-shl-result
 shl-result c = let k = cube c in omega (arith, k)
 
 returns : tie.Need-returns
-returns c = let k = cube c in
+returns c =
+    let k = cube c in
     let e : 1 * 2 ^ (c .to-size .result) % 2 ^ 64 ≡ 2 ^ (c .to-size .result) = shl-exact {a = 1} 1 (c .to-size .result) 64 (omega arith) (omega (arith, k)) ∙ one-mul _ in
     let m : 2 ^ (c .to-size .result) ≤ 2 ^ maxCube = pow-mono k in
     (e ∙ ap (λ z. 2 ^ z) (dimension c), omega (arith, e, m))

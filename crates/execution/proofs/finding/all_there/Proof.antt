@@ -40,12 +40,14 @@ loop-holds : tie.Need-loop-holds Inv-loop μ-loop
 loop-holds c = (omega arith, every-none _)
 
 source-there-requires : tie.Need-source-there-requires Inv-loop μ-loop
-source-there-requires c κs = let d = c .before .before in
+source-there-requires c κs =
+    let d = c .before .before in
     let t = start d in
     ((t .pre .0 .0, t .pre .0 .1, t .pre .0 .2, d .before .before .point-of .ensures, omega (arith, dependences d, c .loop-test .taken)), t .pre .1)
 
 returns : tie.Need-returns Inv-loop μ-loop
-returns c = let d = c .before .before .before .before in
+returns c =
+    let d = c .before .before .before .before in
     let r = c .before .source-there in
     every-stops _ (countOf (start d .args .s)) (c .before .before .before .loop .i) (r .result) (omega (arith, dependences d, c .before .before .loop-test .taken)) (r .ensures) (not-true _ (c .if1 .taken))
 
@@ -56,11 +58,13 @@ loop-less : tie.Need-loop-less Inv-loop μ-loop
 loop-less c = search needs
 
 loop-again : tie.Need-loop-again Inv-loop μ-loop
-loop-again c = let r = c .before .source-there in
+loop-again c =
+    let r = c .before .source-there in
     (omega (arith, c .before .before .loop-test .taken), every-next _ (c .before .before .before .loop .i) (r .result) (c .before .before .before .loop .inv .1) (r .ensures) (not-false _ (c .if1 .left)))
 
 returns-2 : tie.Need-returns-2 Inv-loop μ-loop
-returns-2 c = let d = c .before .before in
+returns-2 c =
+    let d = c .before .before in
     let l = c .before .loop in
     let e : l .i ≡ countOf (start d .args .s) = omega (arith, dependences d, l .inv .0, c .loop-test .left) in
     sym (l .inv .1) ∙ ap (every _) e

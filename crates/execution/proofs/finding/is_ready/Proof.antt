@@ -11,7 +11,8 @@ point-of-requires : tie.Need-point-of-requires
 point-of-requires c κs = search needs
 
 source-at-requires : tie.Need-source-at-requires
-source-at-requires c κs = let t = c .before .before .before .before in
+source-at-requires c κs =
+    let t = c .before .before .before .before in
     (t .pre .0 .0, array-point (t .args .s) (t .args .k) (c .point-of .result) (omega (arith, t .pre .0 .1, t .pre .0 .2)) (c .point-of .ensures), t .pre .0 .3)
 
 returns : tie.Need-returns
@@ -51,7 +52,8 @@ shared-slice-read-bit-set : tie.Need-shared-slice-read-bit-set
 shared-slice-read-bit-set c = search needs
 
 bit-set-requires : tie.Need-bit-set-requires
-bit-set-requires c κs = let t = c .before .before .before .before .before .before .before .before .before .before .before .before in
+bit-set-requires c κs =
+    let t = c .before .before .before .before .before .before .before .before .before .before .before .before in
     omega (arith, t .pre .0 .3, count-is (t .args .s) (t .pre .0 .0) .1)
 
 returns-4 : tie.Need-returns-4

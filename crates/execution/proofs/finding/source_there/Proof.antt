@@ -9,7 +9,8 @@ use Rattle.execution.proofs.finding.source_there.Statement.{statement}
 use Rattle.execution.proofs.finding.source_there.Tie as tie
 
 source-at-requires : tie.Need-source-at-requires
-source-at-requires c κs = let t = c .before .before .before in
+source-at-requires c κs =
+    let t = c .before .before .before in
     (t .pre .0 .0, array-point (t .args .s) (t .args .k) (t .args .point) (omega (arith, t .pre .0 .1, t .pre .0 .2)) (t .pre .0 .3), t .pre .0 .4)
 
 returns : tie.Need-returns
@@ -36,7 +37,8 @@ shared-slice-read-bit-set : tie.Need-shared-slice-read-bit-set
 shared-slice-read-bit-set c = search needs
 
 bit-set-requires : tie.Need-bit-set-requires
-bit-set-requires c κs = let t = c .before .before .before .before .before .before .before .before in
+bit-set-requires c κs =
+    let t = c .before .before .before .before .before .before .before .before in
     omega (arith, t .pre .0 .4, count-is (t .args .s) (t .pre .0 .0) .1)
 
 returns-3 : tie.Need-returns-3
