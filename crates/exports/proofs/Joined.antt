@@ -12,13 +12,13 @@ use Rattle.partition.specs.Partition.{stepsOf, blocksOf}
 use Rattle.mapping.specs.Mapping.{processorsOf}
 use Rattle.sequential.specs.Sequential.{fillRefusal, filled, ruleOf, valuesOf}
 use Rattle.planner.specs.declared.Planning.{Planning}
-use Rattle.planner.specs.Plan.{planRefusal, planAnswer, tableAfter}
+use Rattle.planner.specs.Plan.{planRefusal, planAnswer, countsIn, tableAfter}
 use Rattle.execution.specs.declared.Move as asked
 use Rattle.execution.specs.declared.Answer.{Answer}
 use Rattle.execution.specs.Rules.{Layout}
 use Rattle.execution.specs.Run.{State, moveEffect, moveAnswer, moveAfter}
 use Rattle.execution.specs.Entry.{moveOf, numberOf, answerOf}
-use Rattle.exports.specs.Exports.{nestIn, countsIn, madeIn}
+use Rattle.exports.specs.Exports.{nestIn, madeIn}
 
 -- a nest made of the parts of numbers
 pub joined-nest : (xs : List ℤ) (depth count cube boundary : ℤ) (lower upper time dependences weights : List ℤ)
@@ -52,7 +52,6 @@ module _ (s n : LoopNest) (a : Planning) (steps blocks processors values : List 
 
   -- the counts
   pub counts-from : a .iterations ∷ a .steps ∷ a .blocks ∷ a .processors ∷ a .messages ∷ [] ≡ countsIn (planAnswer n (a .refusal))
-  unfolding countsIn
   counts-from = ap countsIn (h ∙ ap (λ (z : LoopNest). planAnswer z (met z)) e ∙ ap (planAnswer n) (sym number-from))
 
 -- a table, where the nest is known

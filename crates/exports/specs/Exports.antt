@@ -1,4 +1,4 @@
--- A nest, the counts of a plan, a move and what it did as numbers in a row, for callers in other languages. Assumes nothing.
+-- A nest, a move and what it did as numbers in a row, for callers in other languages. Assumes nothing.
 use mathlib.Core.Bool.{true, false}
 use mathlib.Core.List.{List, [], _∷_}
 use Prim.Native.Nat.{ℕ}
@@ -7,7 +7,6 @@ use lib.IntN.{ℤ, pos}
 use lib.ListN.{getD}
 use Rattle.nest.specs.declared.LoopNest.{LoopNest}
 use Rattle.nest.specs.Nest.{part}
-use Rattle.planner.specs.declared.Planning.{Planning}
 use Rattle.execution.specs.declared.Move.{Move}
 use Rattle.execution.specs.declared.Move.the-variants.{Compute, Deliver}
 use Rattle.execution.specs.declared.Answer.{Answer}
@@ -17,10 +16,6 @@ use Rattle.execution.specs.declared.Answer.the-variants.{Computed, Delivered, R
 unfoldable pub nestIn : List ℤ → LoopNest
 nestIn xs =
     record { depth = getD xs 0 (pos 0); count = getD xs 1 (pos 0); cube = getD xs 2 (pos 0); lower = part xs 3 3; upper = part xs 6 3; time = part xs 9 3; dependences = part xs 12 24; boundary = getD xs 36 (pos 0); weights = part xs 37 8 }
-
--- the counts of an answer, in the order of its fields
-unfoldable pub countsIn : Planning → List ℕ
-countsIn a = a .iterations ∷ a .steps ∷ a .blocks ∷ a .processors ∷ a .messages ∷ []
 
 -- the move that is asked for: kind 0 is a compute on a processor, any other a delivery for a rank along a dependence
 unfoldable pub moveIn : ℕ → ℕ → ℕ → Move

@@ -19,10 +19,10 @@ ghost use Rattle.nest.specs.Nest.{part};
 ghost use Rattle.partition.specs.Partition.{stepsOf, blocksOf};
 ghost use Rattle.mapping.specs.Mapping.{processorsOf};
 ghost use Rattle.sequential.specs.Sequential.{valuesOf, ruleOf, fillRefusal, filled};
-ghost use Rattle.planner.specs.Plan.{planRefusal, planAnswer, tableAfter};
+ghost use Rattle.planner.specs.Plan.{planRefusal, planAnswer, countsIn, tableAfter};
 ghost use Rattle.execution.specs.Run.{moveEffect, moveAnswer, moveAfter};
 ghost use Rattle.execution.specs.Entry.{layoutIn, stateIn, moveOf, numberOf, answerOf};
-ghost use Rattle.exports.specs.Exports.{nestIn, countsIn, moveIn, madeIn};
+ghost use Rattle.exports.specs.Exports.{nestIn, moveIn, madeIn};
 
 // How many numbers a nest has.
 const NUMBERS: usize = 45;

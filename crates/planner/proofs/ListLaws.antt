@@ -22,7 +22,7 @@ use Rattle.mapping.specs.Mapping.{processorsOf}
 use Rattle.mapping.proofs.Theorems.{processors-length}
 use Rattle.sequential.specs.Sequential.{valuesOf}
 use Rattle.planner.specs.declared.Planning.{Planning}
-use Rattle.planner.specs.Plan.{noRoom, planRefusal, planAnswer, tableAfter, countsOf}
+use Rattle.planner.specs.Plan.{noRoom, planRefusal, planAnswer, tableAfter, countsOf, countsIn}
 use Rattle.planner.specs.Rows.{rowOf}
 use Rattle.planner.specs.Listing.{planLines, planText}
 use Rattle.planner.proofs.LineLaws.{lines-behind, nth-small, counts-length}
@@ -37,10 +37,7 @@ front n table rest all e q k h = ap (λ (l : List ℕ). getD l k 0) q ∙ List·
 as-long : (n : ℕ) (table rest all : List ℕ) → length table ≡ n → all ≡ table ++ rest → n ≤ length all
 as-long n table rest all e q = omega (arith, ap length q, length-append table rest)
 
--- the five counts of an answer
-abbrev pub countsIn : Planning → List ℕ
-countsIn r = r .iterations ∷ r .steps ∷ r .blocks ∷ r .processors ∷ r .messages ∷ []
-
+-- the counts of an answer that is no refusal are the nest's
 answer-counts : (s : LoopNest) → countsIn (planAnswer s 0) ≡ countsOf s
 unfolding planAnswer countsOf
 answer-counts s = refl

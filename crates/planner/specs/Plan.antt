@@ -16,6 +16,10 @@ use Rattle.planner.specs.declared.Planning.{Planning}
 unfoldable pub countsOf : LoopNest → List ℕ
 countsOf s = length (pointsOf s) ∷ stepCount s ∷ blockCount s ∷ processorCount s ∷ messageCount s ∷ []
 
+-- the counts that an answer holds
+abbrev pub countsIn : Planning → List ℕ
+countsIn r = r .iterations ∷ r .steps ∷ r .blocks ∷ r .processors ∷ r .messages ∷ []
+
 -- 14 if one of four tables has fewer than n entries, 0 otherwise
 abbrev pub noRoom : ℕ → ℕ → ℕ → ℕ → ℕ → ℕ
 noRoom n steps blocks processors values = orElse (shortBuffer n steps) (orElse (shortBuffer n blocks) (orElse (shortBuffer n processors) (shortBuffer n values)))
