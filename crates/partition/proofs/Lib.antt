@@ -3,6 +3,7 @@ pub mod Answers
 pub mod Blocks
 pub mod ByFirst
 pub mod Chosen
+pub mod ChainLaws
 pub mod ClassFacts
 pub mod ClassNumbers
 pub mod Classes

@@ -54,7 +54,7 @@ number-table-requires : tie.Need-number-table-requires
 number-table-requires c κs =
     let d = c .before .before .before .before .before .before .before .before .before .before .before .before .before .before .before .before in
     let G = c .before .before .before .key-table .ensures in
-    (few d, subst (λ (m : ℕ). d .args .n * 4 ≤ m) (sym (G .size)) (d .pre .2), d .pre .3)
+    ((few d, subst (λ (m : ℕ). d .args .n * 4 ≤ m) (sym (G .size)) (d .pre .2), d .pre .3), G .within)
 
 same-length : tie.Need-same-length
 same-length c = search needs
