@@ -29,6 +29,7 @@ pub mod Nests
 pub mod Numbering
 pub mod Padded
 pub mod Products
+pub mod Residues
 pub mod Sizes
 pub mod Smallest
 pub mod StepLaws

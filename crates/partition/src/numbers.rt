@@ -1,4 +1,5 @@
 // Numbering of rows by first equal row: blocks in the order of their first iterations.
+use crate::arithmetic::size;
 use crate::groups::one_more;
 use crate::groups::place_before;
 use crate::groups::row_of;
@@ -6,7 +7,6 @@ ghost use mathlib.Core.Path.{_≡_};
 ghost use mathlib.Core.Bool.{true};
 ghost use mathlib.Core.List.{_++_, map};
 ghost use Prim.Native.Nat.{ℕ, _+_, _*_, _<_, _≤_};
-ghost use lib.IntN.{natAbs};
 ghost use lib.ListN.{length, take, drop, getD};
 ghost use Rattle.integers.specs.Lists.{place, firsts};
 ghost use Rattle.integers.specs.Vector.{eqV, AllWithin};
@@ -42,14 +42,6 @@ pub fn equals_earlier(keys: &[i64], i: usize, h: usize) -> bool
         return false;
     }
     same_row(keys, i, h)
-}
-
-// The size of a number.
-pub fn size(x: i64) -> usize
-    requires { ⌜ natAbs x ≤ 1000000000000000 ⌝ }
-    ensures { λ r. ⌜ r ≡ natAbs x ⌝ }
-{
-    if x < 0 { (0 - x) as usize } else { x as usize }
 }
 
 // The hash of row i of a flat table.

@@ -1,6 +1,6 @@
 -- `find_row` finds an equal row, if there is one. The loop's invariant: what it has passed is not equal (ChainLaws.Searched).
 use mathlib.Core.Path.{_≡_, sym, _∙_, subst}
-use Prim.Native.Nat.{ℕ, suc, _≤_, _<_, _-_}
+use Prim.Native.Nat.{ℕ, suc, _<_, _-_}
 use native.Mathlib.Omega.{arith}
 use lib.ListN.{getD}
 use Rattle.integers.specs.Vector.{eqV, eqV-true}

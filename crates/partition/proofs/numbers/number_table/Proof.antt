@@ -1,6 +1,6 @@
 -- `number_table` numbers the rows by first equal row. The loop's invariant: the numbers of the first i rows stand, the heads are the first rows of their
 -- kind, and their numbers are in chains by hash.
-use mathlib.Core.Path.{_≡_, refl, sym, _∙_, ap, subst}
+use mathlib.Core.Path.{_≡_, refl, sym, _∙_, ap}
 use mathlib.Core.Logic.{_⊎_, inl, inr}
 use mathlib.Core.List.{List, map}
 use Prim.Native.Nat.{ℕ, _≤_, _<_, _-_, _*_}

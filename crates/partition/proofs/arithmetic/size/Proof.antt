@@ -9,8 +9,8 @@ use Rattle.integers.specs.Machine.{reads, fits, read}
 use Rattle.integers.specs.Solver.{var, con, _⊖_}
 use Rattle.integers.specs.Tests.{signed}
 use borrow.Author.Needs.{needs}
-use Rattle.partition.proofs.numbers.size.Statement.{statement}
-use Rattle.partition.proofs.numbers.size.Tie as tie
+use Rattle.partition.proofs.arithmetic.size.Statement.{statement}
+use Rattle.partition.proofs.arithmetic.size.Tie as tie
 
 opposite : (x : ℤ) → natAbs (pos 0 -ℤ x) ≡ natAbs x
 opposite x = omega (ints, dif (pos 0) x, sizes x, sizes (pos 0 -ℤ x))
