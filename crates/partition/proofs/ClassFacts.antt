@@ -3,7 +3,6 @@ use mathlib.Core.Path.{_≡_, refl, sym, ap, ap₂, _∙_, subst}
 use mathlib.Core.Bool.{Bool, true, false}
 use mathlib.Core.List.{List, [], _∷_, _++_, map, List·Memᴰ, List·Memᴰ·head, List·Memᴰ·tail}
 use Prim.Native.Nat.{ℕ, zero, suc, _+_, _*_, _<_, _≤_}
-use native.Mathlib.Nat as NatL
 use lib.IntN.{ℤ, pos, negsuc, natAbs, _+ℤ_, _-ℤ_, _*ℤ_}
 use lib.ListN.{length, getD, take, length-map}
 use lib.Seq.{getD-take, length-take-le}
@@ -19,7 +18,7 @@ use Rattle.partition.proofs.Vectors.{comp, same-components, length-minu
 use Rattle.partition.proofs.Classes.{Sound, same-class-refl}
 use Rattle.partition.proofs.Four.{length-four-projection}
 use Rattle.partition.proofs.Inside.{pick-lengths}
-use Rattle.partition.proofs.Listed.{place-is, place-none}
+use Rattle.partition.proofs.Listed.{place-none}
 
 -- ---- differences
 
@@ -91,12 +90,6 @@ length-heads t hs k l = length-map (take k hs) (row t) ∙ length-take-le k hs l
 
 pub head-at : (t : List ℤ) (hs : List ℕ) (k c : ℕ) → c < k → getD (map (row t) (take k hs)) c (row t 0) ≡ row t (getD hs c 0)
 head-at t hs k c l = getD-map (row t) 0 (take k hs) c ∙ ap (row t) (getD-take k hs c 0 l)
-
-pub head-found : (p : Vector → Bool) (t : List ℤ) (hs : List ℕ) (k c : ℕ) → k ≤ length hs → c < k → p (row t (getD hs c 0)) ≡ true → ((b : ℕ) → b < c → p (row t (getD hs b 0)) ≡ false)
-    → c ≡ place p (map (row t) (take k hs))
-head-found p t hs k c lk l e n =
-    sym (place-is (row t 0) p (map (row t) (take k hs)) c (subst (λ (j : ℕ). c < j) (sym (length-heads t hs k lk)) l) (ap p (head-at t hs k c l) ∙ e)
-    (λ b h. ap p (head-at t hs k b (NatL.lt-trans h l)) ∙ n b h))
 
 pub head-none : (p : Vector → Bool) (t : List ℤ) (hs : List ℕ) (k : ℕ) → k ≤ length hs → ((b : ℕ) → b < k → p (row t (getD hs b 0)) ≡ false) → k ≡ place p (map (row t) (take k hs))
 head-none p t hs k lk n =

@@ -156,9 +156,31 @@ unfolding rows upto
 rows-upto t zero = refl
 rows-upto t (suc n) = ap (λ (u : List Vector). u ++ (row t n ∷ [])) (rows-upto t n) ∙ sym (map-snoc (row t) (upto n) n)
 
+-- a place among the rows before, by another test on another table
+pub same-places : (s : Vector → Vector → Bool) (t keys : List ℤ) (n : ℕ) → ((a b : ℕ) → a < n → b < n → eqV (row keys a) (row keys b) ≡ s (row t a) (row t b)) → (i : ℕ) → i < n
+    → place (eqV (row keys i)) (firsts eqV (rows keys i)) ≡ place (s (row t i)) (firsts s (rows t i))
+unfolding firsts
+same-places s t keys n e i l =
+    by keys eqV ∙ ap (place (λ z. eqV (row keys i) (row keys z))) (after-cong n S R e [] (upto i) tt below)
+    ∙ place-cong n S R e i l (firstsAfter R [] (upto i)) (after-below n S R e [] (upto i) below) ∙ sym (by t s)
+  where
+    S : ℕ → ℕ → Bool
+    S a b = eqV (row keys a) (row keys b)
+
+    R : ℕ → ℕ → Bool
+    R a b = s (row t a) (row t b)
+
+    below : Below n (upto i)
+    below = below-more i n (upto i) (omega arith) (upto-below i)
+
+    by : (u : List ℤ) (q : Vector → Vector → Bool) → place (q (row u i)) (firstsAfter q [] (rows u i)) ≡ place (λ z. q (row u i) (row u z)) (firstsAfter (λ a b. q (row u a) (row u b)) [] (upto i))
+    by u q =
+        ap (λ (xs : List Vector). place (q (row u i)) (firstsAfter q [] xs)) (rows-upto u i) ∙ ap (place (q (row u i))) (after-map (row u) q [] (upto i))
+        ∙ place-map (row u) (q (row u i)) (firstsAfter (λ a b. q (row u a) (row u b)) [] (upto i))
+
 -- ---- equal keys, equal groups
 
-bool-same : (a b : Bool) → (T a → T b) → (T b → T a) → a ≡ b
+pub bool-same : (a b : Bool) → (T a → T b) → (T b → T a) → a ≡ b
 bool-same true true f g = refl
 bool-same true false f g = absurd (f tt)
 bool-same false true f g = absurd (g tt)

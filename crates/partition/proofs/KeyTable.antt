@@ -2,21 +2,22 @@
 use mathlib.Core.Path.{_≡_, refl, sym, ap, _∙_, subst}
 use mathlib.Core.Bool.{Bool, true}
 use mathlib.Core.Logic.{_⊎_, inl, inr}
-use mathlib.Core.List.{List, [], _∷_, map}
+use mathlib.Core.List.{List, [], _∷_, _++_, map, List·Memᴰ, List·Memᴰ·head, List·Memᴰ·tail}
 use Prim.Native.Nat.{ℕ, zero, suc, _+_, _*_, _<_, _≤_}
 use native.Mathlib.Nat as NatL
 use native.Mathlib.Omega.{arith}
 use lib.IntN.{ℤ, pos, natAbs}
 use Rattle.integers.specs.Vector.{AllWithin, getD-within, Vector}
-use lib.ListN.{length, getD, take, drop, set, length-set, replicate, length-replicate}
-use lib.Seq.{getD-set-same, getD-set-other}
-use Rattle.integers.specs.Lists.{place, firsts}
+use lib.ListN.{length, getD, take, drop, set, length-set, replicate, length-replicate, length-append}
+use lib.Seq.{getD-set-same, getD-set-other, drop-append-seam}
+use Rattle.integers.specs.Lists.{place, firsts, true-T, below-or-not}
 use Rattle.partition.specs.Grouping.{Frame, sameClass, seeds, classNumber, directions, difference}
 use Rattle.partition.specs.Tables.{row, rows, putRow}
-use Rattle.partition.specs.Basis.{Keyed, Grouped, basisFrame, inOneClass, pick}
+use Rattle.partition.specs.Basis.{Keyed, Grouped, basisFrame, inOneClass, pick, residues, ClassRows}
 use Rattle.partition.proofs.Four.{four}
 use Rattle.partition.proofs.Listed.{getD-before, getD-rows, length-rows, place-true}
-use Rattle.partition.proofs.Numbering.{numbers, length-numbers}
+use Rattle.partition.proofs.ListFacts.{firsts-cover}
+use Rattle.partition.proofs.Numbering.{numbers, length-numbers, firsts-seen, firsts-new, place-append, place-last, place-no, place-most}
 use Rattle.partition.proofs.ClassFacts.{length-heads, head-at}
 use Rattle.partition.proofs.Table.{Numbered, numbered-start, numbered-more, number-most}
 
@@ -215,15 +216,71 @@ getD-default a b (x ∷ xs) (suc i) l = getD-default a b xs i (omega arith)
 
 -- ---- the numbers so far
 
-pub numbered-number : (same : Vector → Vector → Bool) (t : List ℤ) (out₀ out heads : List ℕ) (k n : ℕ) → Numbered same t out₀ out heads k n → (j : ℕ) → j < n → getD out j 0 ≡ place (same (row t j)) (firsts same (rows t n))
-numbered-number same t out₀ out heads k n N j l =
-    ap (λ (u : List ℕ). getD u j 0) (N .table)
+pub table-number : (same : Vector → Vector → Bool) (t : List ℤ) (out₀ out : List ℕ) (n : ℕ) → out ≡ numbers same (firsts same (rows t n)) (rows t n) ++ drop n out₀ → (j : ℕ) → j < n
+    → getD out j 0 ≡ place (same (row t j)) (firsts same (rows t n))
+table-number same t out₀ out n e j l =
+    ap (λ (u : List ℕ). getD u j 0) e
     ∙ getD-before 0 (numbers same (firsts same (rows t n)) (rows t n)) (drop n out₀) j (subst (λ (b : ℕ). j < b) (sym (length-numbers same (firsts same (rows t n)) (rows t n))) inside)
     ∙ getD-numbers same (firsts same (rows t n)) (rows t n) j inside
     ∙ ap (λ (v : Vector). place (same v) (firsts same (rows t n))) (getD-rows t n j l)
   where
     inside : j < length (rows t n)
     inside = subst (λ (b : ℕ). j < b) (sym (length-rows t n)) l
+
+-- the table has room for them
+pub table-long : (same : Vector → Vector → Bool) (t : List ℤ) (out₀ out : List ℕ) (n : ℕ) → out ≡ numbers same (firsts same (rows t n)) (rows t n) ++ drop n out₀ → n ≤ length out
+table-long same t out₀ out n e =
+    omega (arith, ap (λ (u : List ℕ). length u) e ∙ length-append (numbers same (firsts same (rows t n)) (rows t n)) (drop n out₀), length-numbers same (firsts same (rows t n)) (rows t n), length-rows t n)
+
+-- what stands behind is as before
+pub table-rest : (same : Vector → Vector → Bool) (t : List ℤ) (out₀ out : List ℕ) (n : ℕ) → out ≡ numbers same (firsts same (rows t n)) (rows t n) ++ drop n out₀ → drop n out ≡ drop n out₀
+table-rest same t out₀ out n e =
+    ap (drop n) e ∙ ap (λ (m : ℕ). drop m (numbers same (firsts same (rows t n)) (rows t n) ++ drop n out₀)) (sym (length-numbers same (firsts same (rows t n)) (rows t n) ∙ length-rows t n))
+    ∙ drop-append-seam (numbers same (firsts same (rows t n)) (rows t n)) (drop n out₀)
+
+pub numbered-number : (same : Vector → Vector → Bool) (t : List ℤ) (out₀ out heads : List ℕ) (k n : ℕ) → Numbered same t out₀ out heads k n → (j : ℕ) → j < n → getD out j 0 ≡ place (same (row t j)) (firsts same (rows t n))
+numbered-number same t out₀ out heads k n N j l = table-number same t out₀ out n (N .table) j l
+
+-- a row stands among the rows
+row-member : (t : List ℤ) (n i : ℕ) → i < n → List·Memᴰ (row t i) (rows t n)
+unfolding rows
+row-member t zero i l = absurd (omega arith)
+row-member t (suc n) i l = pick (NatL.eq-or-lt-of-le (omega arith)) (row-member t n i)
+  where
+    behind : (x : Vector) (xs ys : List Vector) → List·Memᴰ x ys → List·Memᴰ x (xs ++ ys)
+    behind x [] ys m = m
+    behind x (z ∷ xs) ys m = List·Memᴰ·tail (behind x xs ys m)
+
+    before : (x : Vector) (xs ys : List Vector) → List·Memᴰ x xs → List·Memᴰ x (xs ++ ys)
+    before x [] ys m = elim m [ ]
+    before x (z ∷ xs) ys (List·Memᴰ·head e) = List·Memᴰ·head e
+    before x (z ∷ xs) ys (List·Memᴰ·tail m) = List·Memᴰ·tail (before x xs ys m)
+
+    pick : (i ≡ n) ⊎ (i < n) → (i < n → List·Memᴰ (row t i) (rows t n)) → List·Memᴰ (row t i) (rows t n ++ (row t n ∷ []))
+    pick (inl e) m = behind (row t i) (rows t n) (row t n ∷ []) (List·Memᴰ·head (ap (row t) e))
+    pick (inr w) m = before (row t i) (rows t n) (row t n ∷ []) (m w)
+
+-- the numbers of the rows, among those before
+pub prefix-place : (same : Vector → Vector → Bool) → ((y : Vector) → length y ≡ 4 → same y y ≡ true) → (t : List ℤ) (n i : ℕ) → i < n → place (same (row t i)) (firsts same (rows t n)) ≡ place (same (row t i)) (firsts same (rows t i))
+unfolding rows
+prefix-place same self t zero i l = absurd (omega arith)
+prefix-place same self t (suc n) i l = pick (NatL.eq-or-lt-of-le (omega arith)) (below-or-not (place (same (row t n)) (firsts same (rows t n))) (length (firsts same (rows t n)))) (prefix-place same self t n i)
+  where
+    at : (j : ℕ) → j ≡ n → length (firsts same (rows t n)) ≤ place (same (row t n)) (firsts same (rows t n)) → place (same (row t j)) (firsts same (rows t n) ++ (row t n ∷ [])) ≡ place (same (row t j)) (firsts same (rows t j))
+    at j e g =
+        subst (λ (m : ℕ). place (same (row t m)) (firsts same (rows t n) ++ (row t n ∷ [])) ≡ place (same (row t m)) (firsts same (rows t m))) (sym e)
+        (place-last (same (row t n)) (firsts same (rows t n)) (row t n) (place-no (same (row t n)) (firsts same (rows t n)) g) (self (row t n) refl) ∙ NatL.le-antisymm g (place-most (same (row t n)) (firsts same (rows t n))))
+
+    pick : (i ≡ n) ⊎ (i < n) → (place (same (row t n)) (firsts same (rows t n)) < length (firsts same (rows t n))) ⊎ (length (firsts same (rows t n)) ≤ place (same (row t n)) (firsts same (rows t n)))
+        → (i < n → place (same (row t i)) (firsts same (rows t n)) ≡ place (same (row t i)) (firsts same (rows t i)))
+        → place (same (row t i)) (firsts same (rows t n ++ (row t n ∷ []))) ≡ place (same (row t i)) (firsts same (rows t i))
+    pick (inl e) (inl s) ih = ap (place (same (row t i))) (firsts-seen same (rows t n) (row t n) s) ∙ ap (λ (m : ℕ). place (same (row t i)) (firsts same (rows t m))) (sym e)
+    pick (inr w) (inl s) ih = ap (place (same (row t i))) (firsts-seen same (rows t n) (row t n) s) ∙ ih w
+    pick (inl e) (inr g) ih = ap (place (same (row t i))) (firsts-new same (rows t n) (row t n) g) ∙ at i e g
+    pick (inr w) (inr g) ih =
+        ap (place (same (row t i))) (firsts-new same (rows t n) (row t n) g)
+        ∙ place-append (same (row t i)) (firsts same (rows t n)) (row t n ∷ []) (firsts-cover same (rows t n) (row t i) (true-T (self (row t i) refl)) (row-member t n i w))
+        ∙ ih w
 
 -- among the heads
 pub numbered-at : (same : Vector → Vector → Bool) (t : List ℤ) (out₀ out heads : List ℕ) (k n : ℕ) → Numbered same t out₀ out heads k n → (j : ℕ) → j < n → getD out j 0 ≡ place (same (row t j)) (map (row t) (take k heads))
@@ -241,11 +298,6 @@ key-copied same F count t keys₀ keys heads k i c b K l at e move =
   where
     number : getD (K .out) b 0 ≡ c
     number = numbered-at same t blank (K .out) heads k i (K .num) b l ∙ sym e ∙ sym at
-
--- the class numbers stand first in the rows
-pub keying-class : (same : Vector → Vector → Bool) (F : Frame) (count : ℕ) (t keys₀ keys : List ℤ) (heads : List ℕ) (k n : ℕ) → Keying same F count t keys₀ keys heads k n → (j : ℕ) → j < n
-    → getD keys (j * 4) (pos 0) ≡ pos (place (same (row t j)) (map (row t) (take k heads)))
-keying-class same F count t keys₀ keys heads k n K j l = K .keyed j l .class-is ∙ ap pos (numbered-at same t blank (K .out) heads k n (K .num) j l)
 
 keying-same : (same : Vector → Vector → Bool) (F : Frame) (count : ℕ) (t keys₀ keys : List ℤ) (heads : List ℕ) (k n : ℕ) → Keying same F count t keys₀ keys heads k n → k ≤ length heads → (j : ℕ) → j < n
     → Keyed F count (place (same (row t j)) (firsts same (rows t n))) (row t j) (getD (firsts same (rows t n)) (place (same (row t j)) (firsts same (rows t n))) []) (row keys j)
@@ -284,3 +336,35 @@ keying-end P a b c count r t keys₀ keys heads k i n K₀ room e =
 
 pub in-set : (t : List ℤ) (i : ℕ) (x : ℤ) (a : ℕ) → a < length t → a < length (set t i x)
 in-set t i x a l = subst (λ (n : ℕ). a < n) (sym (length-set t i x)) l
+
+-- ---- the residues of the points, written from the front
+
+-- none yet
+pub class-rows-start : (count : ℕ) (f1 f2 f3 : Vector) (d : ℤ) (t keys : List ℤ) → ClassRows count f1 f2 f3 d t 0 keys keys
+class-rows-start count f1 f2 f3 d t keys = record { rows-are = λ j l. absurd (omega arith); rest = λ a l. refl; size = refl; within = λ j l. absurd (omega arith) }
+
+-- one more
+pub class-rows-more : (count : ℕ) (f1 f2 f3 : Vector) (d : ℤ) (t keys₀ keys : List ℤ) (i : ℕ) (g : Vector) → ClassRows count f1 f2 f3 d t i keys₀ keys → i * 4 + 4 ≤ length keys
+    → g ≡ residues count f1 f2 f3 d (row t i) → AllWithin 1000000000 g → ClassRows count f1 f2 f3 d t (i + 1) keys₀ (putRow keys i g)
+class-rows-more count f1 f2 f3 d t keys₀ keys i g K fits e w =
+    record {
+      rows-are = λ j l. rows′ j (NatL.eq-or-lt-of-le (omega arith));
+      rest = λ a l. put-other keys i g a (λ q. absurd (omega arith)) (λ q. absurd (omega arith)) (λ q. absurd (omega arith)) (λ q. absurd (omega arith)) ∙ K .rest a (omega arith);
+      size = put-length keys i g ∙ K .size;
+      within = λ j l. within′ j (NatL.eq-or-lt-of-le (omega arith));
+    }
+  where
+    here : row (putRow keys i g) i ≡ g
+    here = put-row keys i g fits (ap (λ (u : Vector). length u) e)
+
+    rows′ : (j : ℕ) → (j ≡ i) ⊎ (j < i) → row (putRow keys i g) j ≡ residues count f1 f2 f3 d (row t j)
+    rows′ j (inl q) = subst (λ (m : ℕ). row (putRow keys i g) m ≡ residues count f1 f2 f3 d (row t m)) (sym q) (here ∙ e)
+    rows′ j (inr l) = row-other keys i j g l ∙ K .rows-are j l
+
+    within′ : (j : ℕ) → (j ≡ i) ⊎ (j < i) → AllWithin 1000000000 (row (putRow keys i g) j)
+    within′ j (inl q) = subst (λ (m : ℕ). AllWithin 1000000000 (row (putRow keys i g) m)) (sym q) (subst (AllWithin 1000000000) (sym here) w)
+    within′ j (inr l) = subst (AllWithin 1000000000) (sym (row-other keys i j g l)) (K .within j l)
+
+-- the groups, written over them
+pub grouped-after : (F : Frame) (count : ℕ) (f1 f2 f3 : Vector) (d : ℤ) (t : List ℤ) (n : ℕ) (keys₀ keys keys′ : List ℤ) → ClassRows count f1 f2 f3 d t n keys₀ keys → Grouped F count t n keys keys′ → Grouped F count t n keys₀ keys′
+grouped-after F count f1 f2 f3 d t n keys₀ keys keys′ C G = record { keyed = G .keyed; rest = λ a l. G .rest a l ∙ C .rest a l; size = G .size ∙ C .size; within = G .within }

@@ -3,6 +3,7 @@ pub mod Answers
 pub mod Blocks
 pub mod ByFirst
 pub mod Chosen
+pub mod ChainLaws
 pub mod ClassFacts
 pub mod ClassNumbers
 pub mod Classes
@@ -28,6 +29,7 @@ pub mod Nests
 pub mod Numbering
 pub mod Padded
 pub mod Products
+pub mod Residues
 pub mod Sizes
 pub mod Smallest
 pub mod StepLaws

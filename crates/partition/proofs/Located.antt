@@ -22,22 +22,22 @@ use Rattle.partition.proofs.Whole.{factor-is}
 abbrev pub Exact : Bool → ℤ → ℤ → Bool → Type 0
 Exact r t d chosen = (r ≡ true → (quotZ t d *ℤ d ≡ t) × (chosen ≡ false → t ≡ pos 0)) × (r ≡ false → (c : ℤ) → c *ℤ d ≡ t → (chosen ≡ false → c ≡ pos 0) → ⊥)
 
-fill-1 : (count : ℕ) (x y z : ℤ) → Fill count x y z → ltb 0 count ≡ false → x ≡ pos 0
+pub fill-1 : (count : ℕ) (x y z : ℤ) → Fill count x y z → ltb 0 count ≡ false → x ≡ pos 0
 fill-1 zero x y z f e = f .0
 fill-1 (suc n) x y z f e = absurd (subst T e (lt→ltb 0 (suc n) (omega arith)))
 
-fill-2 : (count : ℕ) (x y z : ℤ) → Fill count x y z → ltb 1 count ≡ false → y ≡ pos 0
+pub fill-2 : (count : ℕ) (x y z : ℤ) → Fill count x y z → ltb 1 count ≡ false → y ≡ pos 0
 fill-2 zero x y z f e = f .1
 fill-2 (suc zero) x y z f e = f .0
 fill-2 (suc (suc n)) x y z f e = absurd (subst T e (lt→ltb 1 (suc (suc n)) (omega arith)))
 
-fill-3 : (count : ℕ) (x y z : ℤ) → Fill count x y z → ltb 2 count ≡ false → z ≡ pos 0
+pub fill-3 : (count : ℕ) (x y z : ℤ) → Fill count x y z → ltb 2 count ≡ false → z ≡ pos 0
 fill-3 zero x y z f e = f .2
 fill-3 (suc zero) x y z f e = f .1
 fill-3 (suc (suc zero)) x y z f e = f
 fill-3 (suc (suc (suc n))) x y z f e = absurd (subst T e (lt→ltb 2 (suc (suc (suc n))) (omega arith)))
 
-to-fill : (count : ℕ) (x y z : ℤ) → (ltb 0 count ≡ false → x ≡ pos 0) → (ltb 1 count ≡ false → y ≡ pos 0) → (ltb 2 count ≡ false → z ≡ pos 0) → Fill count x y z
+pub to-fill : (count : ℕ) (x y z : ℤ) → (ltb 0 count ≡ false → x ≡ pos 0) → (ltb 1 count ≡ false → y ≡ pos 0) → (ltb 2 count ≡ false → z ≡ pos 0) → Fill count x y z
 to-fill zero x y z p q r = (p refl, q refl, r refl)
 to-fill (suc zero) x y z p q r = (q refl, r refl)
 to-fill (suc (suc zero)) x y z p q r = r refl

@@ -3,12 +3,14 @@
 -- the basis, and f1, f2, f3 give the coordinates of a vector in it, d-fold (Cramer's rule): f1·e / d is e's coordinate along v1.
 -- Assumes nothing.
 use mathlib.Core.Path.{_≡_}
-use mathlib.Core.Bool.{Bool}
+use mathlib.Core.Bool.{Bool, true, false}
 use mathlib.Core.List.{List, [], _∷_, map}
 use Prim.Native.Nat.{ℕ, zero, suc, _*_, _<_, _≤_}
-use lib.IntN.{ℤ, pos, _+ℤ_, _-ℤ_, _*ℤ_}
+use lib.Dec.{ltb}
+use lib.IntN.{ℤ, pos, natAbs, _+ℤ_, _-ℤ_, _*ℤ_}
 use lib.Signed.{_≤ℤ_}
 use lib.ListN.{length, getD}
+use Rattle.integers.specs.Division.{leftOver}
 use Rattle.integers.specs.Vector.{AllWithin}
 use Rattle.integers.specs.Vector.{Vector, dots}
 use Rattle.partition.specs.Projection.{projection}
@@ -66,6 +68,22 @@ pub record Ready (P : Vector) (count : ℕ) (v1 v2 v3 : Vector) : Type 0 where
 -- the test for one class; the group size plays no part in it
 abbrev pub inOneClass : Vector → ℕ → Vector → Vector → Vector → Vector → Vector → Bool
 inOneClass P count v1 v2 v3 = sameClass (record { time = P; chosen = pick count v1 v2 v3; size = 1 })
+
+-- what is left of t by division by the size of d that rounds down; for a vector that is not chosen, t itself
+abbrev pub residueOf : Bool → ℤ → ℤ → ℤ
+residueOf true t d = leftOver t (pos (natAbs d))
+residueOf false t d = t
+
+-- the residues of a point: points are in one class exactly if these are equal (proofs/Residues.antt)
+abbrev pub residues : ℕ → Vector → Vector → Vector → ℤ → Vector → Vector
+residues count f1 f2 f3 d j = residueOf (ltb 0 count) (dots f1 j) d ∷ residueOf (ltb 1 count) (dots f2 j) d ∷ residueOf (ltb 2 count) (dots f3 j) d ∷ pos 0 ∷ []
+
+-- each of the first n rows of `keys` has the residues of that point of t
+pub record ClassRows (count : ℕ) (f1 f2 f3 : Vector) (d : ℤ) (t : List ℤ) (n : ℕ) (keys₀ keys : List ℤ) : Type 0 where
+  pub rows-are : (j : ℕ) → j < n → row keys j ≡ residues count f1 f2 f3 d (row t j)
+  pub rest : (a : ℕ) → n * 4 ≤ a → getD keys a (pos 0) ≡ getD keys₀ a (pos 0)
+  pub size : length keys ≡ length keys₀
+  pub within : (j : ℕ) → j < n → AllWithin 1000000000 (row keys j)
 
 -- a group as four numbers: its class, q, and the coordinates along the other chosen vectors; those along vectors that are not
 -- chosen are 0

@@ -6,3 +6,4 @@ pub mod Tables
 pub mod Basis
 pub mod Periods
 pub mod GroupRows
+pub mod Chains

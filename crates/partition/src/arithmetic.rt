@@ -100,6 +100,14 @@ pub fn larger(a: i64, b: i64) -> i64
     if a < b { b } else { a }
 }
 
+// The size of a number.
+pub fn size(x: i64) -> usize
+    requires { ⌜ natAbs x ≤ 1000000000000000 ⌝ }
+    ensures { λ r. ⌜ r ≡ natAbs x ⌝ }
+{
+    if x < 0 { (0 - x) as usize } else { x as usize }
+}
+
 // a, b and c are the rows of a matrix: its determinant.
 pub fn determinant(
     a0: i64,

@@ -1,17 +1,18 @@
 // Classes of points and the group of each point (000, algorithm 1, steps 4 and 5).
+use crate::arithmetic::inner;
+use crate::arithmetic::size;
 use crate::lattice::Frame;
 use crate::lattice::locate;
 ghost use mathlib.Core.Path.{_≡_};
 ghost use mathlib.Core.Bool.{true};
-ghost use mathlib.Core.List.{map};
 ghost use Prim.Native.Nat.{ℕ, _+_, _*_, _<_, _≤_};
-ghost use lib.ListN.{length, take, getD};
-ghost use Rattle.integers.specs.Lists.{place};
+ghost use lib.IntN.{ℤ, natAbs};
+ghost use lib.ListN.{length, getD};
+ghost use Rattle.integers.specs.Lists.{place, firsts};
 ghost use Rattle.integers.specs.Vector.{minus, zeros, AllWithin};
-ghost use Rattle.partition.specs.Tables.{row, putRow};
+ghost use Rattle.partition.specs.Tables.{row, rows, putRow};
 ghost use Rattle.partition.specs.Projection.{projection};
-ghost use lib.IntN.{pos};
-ghost use Rattle.partition.specs.Basis.{Framed, inOneClass, Keyed, basisFrame, Grouped};
+ghost use Rattle.partition.specs.Basis.{Framed, inOneClass, residueOf, residues, ClassRows, Keyed, basisFrame, Grouped};
 
 // The difference of two points of a flat table.
 pub fn difference(points: &[i64], i: usize, h: usize) -> [i64; 4]
@@ -28,37 +29,6 @@ pub fn difference(points: &[i64], i: usize, h: usize) -> [i64; 4]
         points[a + 2] - points[b + 2],
         points[a + 3] - points[b + 3],
     ]
-}
-
-// Whether two points of a flat table are in one class.
-pub fn same_class(f: Frame, points: &[i64], i: usize, h: usize) -> bool
-    requires { ⌜ Framed (f .p) (f .count) (f .v1) (f .v2) (f .v3) (f .f1) (f .f2) (f .f3) (f .d) ⌝ }
-    requires { ⌜ (i * 4 + 4 ≤ length (now points)) × (h * 4 + 4 ≤ length (now points)) ⌝ }
-    requires { ⌜ (i < 4096) × (h < 4096) ⌝ }
-    requires { ⌜ AllWithin 1000 (now points) ⌝ }
-    ensures { λ r. ⌜ r ≡ inOneClass (f .p) (f .count) (f .v1) (f .v2) (f .v3) (row (now (points .entry)) i) (row (now (points .entry)) h) ⌝ }
-{
-    let e = difference(points, i, h);
-    let r = locate(f, e);
-    r.inside
-}
-
-// The number of the class of point i: the first of the k heads in whose class it is; k where there is none.
-pub fn find_class(f: Frame, points: &[i64], heads: &[usize], k: usize, i: usize) -> usize
-    requires { ⌜ Framed (f .p) (f .count) (f .v1) (f .v2) (f .v3) (f .f1) (f .f2) (f .f3) (f .d) ⌝ }
-    requires { ⌜ (i * 4 + 4 ≤ length (now points)) × (i < 4096) × (k ≤ length (now heads)) × (k ≤ 4096) ⌝ }
-    requires { ⌜ ((c : ℕ) → c < k → (getD (now heads) c 0 * 4 + 4 ≤ length (now points)) × (getD (now heads) c 0 < 4096)) ⌝ }
-    requires { ⌜ AllWithin 1000 (now points) ⌝ }
-    ensures { λ r. ⌜ r ≡ place (inOneClass (f .p) (f .count) (f .v1) (f .v2) (f .v3) (row (now (points .entry)) i)) (map (row (now (points .entry))) (take k (now (heads .entry)))) ⌝ }
-{
-    let mut c: usize = 0;
-    while c < k {
-        if same_class(f, points, i, heads[c]) {
-            return c;
-        }
-        c += 1;
-    }
-    k
 }
 
 // The place `back` before i; i where there is none.
@@ -98,31 +68,6 @@ pub fn neighbour(points: &[i64], v: [i64; 4], back: usize, i: usize) -> usize
     i
 }
 
-// The number of the class of point i, as `find_class` finds it. Where b is an earlier point, it is one of the same projection line, so that its class is
-// that of point i; it stands in row b of `keys`.
-pub fn class_of(
-    f: Frame,
-    points: &[i64],
-    heads: &[usize],
-    k: usize,
-    keys: &[i64],
-    b: usize,
-    i: usize,
-) -> usize
-    requires { ⌜ Framed (f .p) (f .count) (f .v1) (f .v2) (f .v3) (f .f1) (f .f2) (f .f3) (f .d) ⌝ }
-    requires { ⌜ (i * 4 + 4 ≤ length (now points)) × (i < 4096) × (k ≤ length (now heads)) × (k ≤ 4096) × (i * 4 ≤ length (now keys)) ⌝ }
-    requires { ⌜ ((c : ℕ) → c < k → (getD (now heads) c 0 * 4 + 4 ≤ length (now points)) × (getD (now heads) c 0 < 4096)) ⌝ }
-    requires { ⌜ ((j : ℕ) → j < i → getD (now keys) (j * 4) (pos 0) ≡ pos (place (inOneClass (f .p) (f .count) (f .v1) (f .v2) (f .v3) (row (now points) j)) (map (row (now points)) (take k (now heads))))) ⌝ }
-    requires { ⌜ (b < i → projection (f .p) (row (now points) i) ≡ projection (f .p) (row (now points) b)) ⌝ }
-    requires { ⌜ AllWithin 1000 (now points) ⌝ }
-    ensures { λ r. ⌜ r ≡ place (inOneClass (f .p) (f .count) (f .v1) (f .v2) (f .v3) (row (now (points .entry)) i)) (map (row (now (points .entry))) (take k (now (heads .entry)))) ⌝ }
-{
-    if b < i {
-        return keys[b * 4] as usize;
-    }
-    find_class(f, points, heads, k, i)
-}
-
 // k, and one more if c is k.
 pub fn one_more(c: usize, k: usize) -> usize
     requires { ⌜ k ≤ 4096 ⌝ }
@@ -156,6 +101,69 @@ pub fn row_of(t: &[i64], i: usize) -> [i64; 4]
 {
     let a = i * 4;
     [t[a], t[a + 1], t[a + 2], t[a + 3]]
+}
+
+// What is left of t by division by r, the size of d, that rounds down; t itself for a vector that is not chosen.
+pub fn residue(t: i64, r: usize, chosen: bool) -> i64
+    requires { ⌜ (1 ≤ r) × (r ≤ 1000000000) × (natAbs t ≤ 1000000000) ⌝ }
+    ensures { λ z. ⌜ (natAbs z ≤ 1000000000) × ((d : ℤ) → natAbs d ≡ r → z ≡ residueOf chosen t d) ⌝ }
+{
+    if chosen {
+        let s = r as i64;
+        return t - integers::floor_div(t, s) * s;
+    }
+    t
+}
+
+// The residues of point i of a flat table.
+pub fn residues_of(f: Frame, points: &[i64], i: usize) -> [i64; 4]
+    requires { ⌜ Framed (f .p) (f .count) (f .v1) (f .v2) (f .v3) (f .f1) (f .f2) (f .f3) (f .d) ⌝ }
+    requires { ⌜ (i * 4 + 4 ≤ length (now points)) × (i < 4096) × AllWithin 1000 (now points) ⌝ }
+    ensures { λ r. ⌜ r ≡ residues (f .count) (f .f1) (f .f2) (f .f3) (f .d) (row (now (points .entry)) i) ⌝ }
+    ensures { λ r. ⌜ AllWithin 1000000000 r ⌝ }
+{
+    let f1 = f.f1;
+    let f2 = f.f2;
+    let f3 = f.f3;
+    let n = f.count;
+    let r = size(f.d);
+    let j = row_of(points, i);
+    let a = residue(inner(f1, j), r, n > 0);
+    let b = residue(inner(f2, j), r, n > 1);
+    let c = residue(inner(f3, j), r, n > 2);
+    [a, b, c, 0]
+}
+
+// The residues of point i. Where b is an earlier point, its residues are those of point i; they stand in row b of `keys`.
+pub fn class_row(f: Frame, points: &[i64], keys: &[i64], b: usize, i: usize) -> [i64; 4]
+    requires { ⌜ Framed (f .p) (f .count) (f .v1) (f .v2) (f .v3) (f .f1) (f .f2) (f .f3) (f .d) ⌝ }
+    requires { ⌜ (i * 4 + 4 ≤ length (now points)) × (i < 4096) × AllWithin 1000 (now points) ⌝ }
+    requires { ⌜ i * 4 ≤ length (now keys) ⌝ }
+    requires { ⌜ (b < i → (row (now keys) b ≡ residues (f .count) (f .f1) (f .f2) (f .f3) (f .d) (row (now points) i)) × AllWithin 1000000000 (row (now keys) b)) ⌝ }
+    ensures { λ r. ⌜ r ≡ residues (f .count) (f .f1) (f .f2) (f .f3) (f .d) (row (now (points .entry)) i) ⌝ }
+    ensures { λ r. ⌜ AllWithin 1000000000 r ⌝ }
+{
+    if b < i {
+        return row_of(keys, b);
+    }
+    residues_of(f, points, i)
+}
+
+// The residues of each of the n points, as four numbers: points are in one class exactly if their rows are equal. They are copied along projection lines.
+pub fn class_rows(f: Frame, points: &[i64], v: [i64; 4], back: usize, n: usize, keys: &mut [i64])
+    requires { ⌜ Framed (f .p) (f .count) (f .v1) (f .v2) (f .v3) (f .f1) (f .f2) (f .f3) (f .d) ⌝ }
+    requires { ⌜ (n ≤ 4096) × (n * 4 ≤ length (now points)) × (n * 4 ≤ length (now keys)) ⌝ }
+    requires { ⌜ AllWithin 1000 (now points) ⌝ }
+    requires { ⌜ projection (f .p) v ≡ zeros 4 ⌝ }
+    ensures { λ r. ⌜ ClassRows (f .count) (f .f1) (f .f2) (f .f3) (f .d) (now (points .entry)) n (now (keys .entry)) (now (keys .exit)) ⌝ }
+{
+    let mut i: usize = 0;
+    while i < n {
+        let b = neighbour(points, v, back, i);
+        let g = class_row(f, points, keys, b, i);
+        put_row(keys, i, g);
+        i += 1;
+    }
 }
 
 // The group of point i, as `group_key` finds it. Where b is an earlier point, its group is that of point i; it stands in row b of `keys`.
@@ -198,21 +206,23 @@ pub fn put_row(keys: &mut [i64], i: usize, g: [i64; 4])
     keys[a + 3] = g[3];
 }
 
-// The group of each of the n points, as four numbers; answers how many classes there are. Points that v leads to lie on one projection line, so they
-// have one group: it is copied from the point before, `back` places earlier, and only the first point of a line is looked at.
+// The group of each of the n points, as four numbers; answers how many classes there are. `classes` has the number of each point's class. Points that v
+// leads to lie on one projection line, so they have one group: it is copied from the point before, `back` places earlier.
 pub fn key_table(
     f: Frame,
     r: usize,
     points: &[i64],
     v: [i64; 4],
     back: usize,
+    classes: &[u16],
     n: usize,
     keys: &mut [i64],
 ) -> usize
     requires { ⌜ Framed (f .p) (f .count) (f .v1) (f .v2) (f .v3) (f .f1) (f .f2) (f .f3) (f .d) ⌝ }
-    requires { ⌜ (1 ≤ r) × (r ≤ 1000000) × (n ≤ 4096) × (n * 4 ≤ length (now points)) × (n * 4 ≤ length (now keys)) ⌝ }
+    requires { ⌜ (1 ≤ r) × (r ≤ 1000000) × (n ≤ 4096) × (n * 4 ≤ length (now points)) × (n * 4 ≤ length (now keys)) × (n ≤ length (now classes)) ⌝ }
     requires { ⌜ AllWithin 1000 (now points) ⌝ }
     requires { ⌜ projection (f .p) v ≡ zeros 4 ⌝ }
+    requires { ⌜ ((i : ℕ) → i < n → getD (now classes) i 0 ≡ place (inOneClass (f .p) (f .count) (f .v1) (f .v2) (f .v3) (row (now points) i)) (firsts (inOneClass (f .p) (f .count) (f .v1) (f .v2) (f .v3)) (rows (now points) i))) ⌝ }
     ensures { λ k. ⌜ Grouped (basisFrame (f .p) (f .count) (f .v1) (f .v2) (f .v3) r) (f .count) (now (points .entry)) n (now (keys .entry)) (now (keys .exit)) ⌝ }
 {
     let mut heads: [usize; 4096] = [0; 4096];
@@ -220,7 +230,7 @@ pub fn key_table(
     let mut i: usize = 0;
     while i < n {
         let b = neighbour(points, v, back, i);
-        let c = class_of(f, points, &heads, k, keys, b, i);
+        let c = classes[i] as usize;
         heads[k] = i;
         k = one_more(c, k);
         let h = heads[c];

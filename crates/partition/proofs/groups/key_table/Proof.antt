@@ -1,5 +1,5 @@
 -- `key_table` writes the group of each point. The loop's invariant: the rows of the first i points stand, and the heads are the first points of their classes.
-use mathlib.Core.Path.{_≡_, refl, sym, _∙_, subst}
+use mathlib.Core.Path.{_≡_, refl, sym, _∙_, ap, subst}
 use mathlib.Core.Bool.{Bool}
 use mathlib.Core.List.{List, map}
 use Prim.Native.Nat.{ℕ, _≤_, _<_, _-_, _+_, _*_}
@@ -13,16 +13,16 @@ use Rattle.partition.specs.Grouping.{Frame}
 use Rattle.partition.specs.Projection.{projection}
 use Rattle.partition.specs.Tables.{row}
 use Rattle.partition.proofs.ClassFacts.{class-refl}
-use Rattle.partition.proofs.KeyTable.{Keying, keying-start, keying-more, keying-end, keying-class, key-copied, key-most, head-low, head-same}
+use Rattle.partition.proofs.KeyTable.{Keying, keying-start, keying-more, keying-end, key-copied, key-most, head-low, head-same}
 use Rattle.partition.proofs.Lined.{one-line, line-place, line-keyed}
 use Rattle.partition.proofs.groups.key_table.Statement.{statement}
 use Rattle.partition.proofs.groups.key_table.Tie as tie
 
 abbrev Inv-loop : tie.InvT-loop
-Inv-loop f r points v back n keys₀ heads₀ k₀ i₀ keys heads k i = (i ≤ n) × (length heads ≡ 4096) × Keying (inOneClass (f .p) (f .count) (f .v1) (f .v2) (f .v3)) (basisFrame (f .p) (f .count) (f .v1) (f .v2) (f .v3) r) (f .count) points keys₀ keys heads k i
+Inv-loop f r points v back classes n keys₀ heads₀ k₀ i₀ keys heads k i = (i ≤ n) × (length heads ≡ 4096) × Keying (inOneClass (f .p) (f .count) (f .v1) (f .v2) (f .v3)) (basisFrame (f .p) (f .count) (f .v1) (f .v2) (f .v3) r) (f .count) points keys₀ keys heads k i
 
 abbrev μ-loop : tie.MeasureT-loop
-μ-loop f r points v back n keys₀ heads₀ k₀ i₀ keys heads k i = n - i
+μ-loop f r points v back classes n keys₀ heads₀ k₀ i₀ keys heads k i = n - i
 
 abbrev At : Type 0
 At = tie.At-loop Inv-loop μ-loop
@@ -51,33 +51,33 @@ keys-long d = d .pre .1 .0 .4
 
 -- in a turn, where c is the number of point i's class: it is one of the heads or the next, and the head is in that class
 abbrev Numbers : At → ℕ → Type 0
-Numbers l c = c ≡ place (same (l .before) (row (l .before .args .points .now) (l .loop .i))) (map (row (l .before .args .points .now)) (take (l .loop .k) (l .loop .heads)))
+Numbers l c = c ≡ place (same (l .before .before) (row (l .before .before .args .points .now) (l .loop .i))) (map (row (l .before .before .args .points .now)) (take (l .loop .k) (l .loop .heads)))
 
-room : (l : At) → l .loop .i < l .before .args .n → l .loop .k < length (l .loop .heads)
-room l w = omega (arith, w, l .loop .inv .1, few l, n-most (l .before))
+room : (l : At) → l .loop .i < l .before .before .args .n → l .loop .k < length (l .loop .heads)
+room l w = omega (arith, w, l .loop .inv .1, few l, n-most (l .before .before))
 
-most : (l : At) (c : ℕ) → l .loop .i < l .before .args .n → Numbers l c → c ≤ l .loop .k
+most : (l : At) (c : ℕ) → l .loop .i < l .before .before .args .n → Numbers l c → c ≤ l .loop .k
 most l c w e =
-    let d = l .before in
+    let d = l .before .before in
     key-most (same d) (class-refl (d .pre .0)) (frame d) (d .args .f .count) (d .args .points .now) (d .args .keys .now) (l .loop .keys) (l .loop .heads) (l .loop .k) (l .loop .i) c (l .loop .inv .2) (room l w) (omega (arith, w, n-most d)) e
 
-low : (l : At) (c : ℕ) → l .loop .i < l .before .args .n → Numbers l c → getD (set (l .loop .heads) (l .loop .k) (l .loop .i)) c 0 ≤ l .loop .i
+low : (l : At) (c : ℕ) → l .loop .i < l .before .before .args .n → Numbers l c → getD (set (l .loop .heads) (l .loop .k) (l .loop .i)) c 0 ≤ l .loop .i
 low l c w e =
-    let d = l .before in
+    let d = l .before .before in
     head-low (same d) (class-refl (d .pre .0)) (frame d) (d .args .f .count) (d .args .points .now) (d .args .keys .now) (l .loop .keys) (l .loop .heads) (l .loop .k) (l .loop .i) c (l .loop .inv .2) (room l w) (omega (arith, w, n-most d)) e
 
 -- where v leads from point b to point i, they have one projection
-line : (l : At) (b : ℕ) → (b < l .loop .i → minus (row (l .before .args .points .now) (l .loop .i)) (row (l .before .args .points .now) b) ≡ l .before .args .v) → b < l .loop .i
-    → projection (l .before .args .f .p) (row (l .before .args .points .now) (l .loop .i)) ≡ projection (l .before .args .f .p) (row (l .before .args .points .now) b)
+line : (l : At) (b : ℕ) → (b < l .loop .i → minus (row (l .before .before .args .points .now) (l .loop .i)) (row (l .before .before .args .points .now) b) ≡ l .before .before .args .v) → b < l .loop .i
+    → projection (l .before .before .args .f .p) (row (l .before .before .args .points .now) (l .loop .i)) ≡ projection (l .before .before .args .f .p) (row (l .before .before .args .points .now) b)
 line l b e h =
-    let d = l .before in
-    one-line (d .args .f .p) (row (d .args .points .now) (l .loop .i)) (row (d .args .points .now) b) (d .args .v) (d .pre .0 .lengths .0) refl refl (d .pre .1 .1 .1) (e h)
+    let d = l .before .before in
+    one-line (d .args .f .p) (row (d .args .points .now) (l .loop .i)) (row (d .args .points .now) b) (d .args .v) (d .pre .0 .lengths .0) refl refl (d .pre .1 .1 .1 .0) (e h)
 
 -- so the group of point b is that of point i
-copied : (l : At) (c b : ℕ) → Numbers l c → (b < l .loop .i → minus (row (l .before .args .points .now) (l .loop .i)) (row (l .before .args .points .now) b) ≡ l .before .args .v) → b < l .loop .i
-    → Keyed (frame (l .before)) (l .before .args .f .count) c (row (l .before .args .points .now) (l .loop .i)) (row (l .before .args .points .now) (getD (set (l .loop .heads) (l .loop .k) (l .loop .i)) c 0)) (row (l .loop .keys) b)
+copied : (l : At) (c b : ℕ) → Numbers l c → (b < l .loop .i → minus (row (l .before .before .args .points .now) (l .loop .i)) (row (l .before .before .args .points .now) b) ≡ l .before .before .args .v) → b < l .loop .i
+    → Keyed (frame (l .before .before)) (l .before .before .args .f .count) c (row (l .before .before .args .points .now) (l .loop .i)) (row (l .before .before .args .points .now) (getD (set (l .loop .heads) (l .loop .k) (l .loop .i)) c 0)) (row (l .loop .keys) b)
 copied l c b n e h =
-    let d = l .before in
+    let d = l .before .before in
     let f = d .args .f in
     let t = d .args .points .now in
     key-copied (same d) (frame d) (f .count) t (d .args .keys .now) (l .loop .keys) (l .loop .heads) (l .loop .k) (l .loop .i) c b (l .loop .inv .2) h n
@@ -85,72 +85,57 @@ copied l c b n e h =
     (λ x. line-keyed (frame d) (f .count) c (row t (l .loop .i)) (row t b) x (row (l .loop .keys) b) (line l b e h))
 
 loop-holds : tie.Need-loop-holds Inv-loop μ-loop
-loop-holds c = (omega arith, refl, keying-start (same c) (frame c) (c .args .f .count) (c .args .points .now) (c .args .keys .now) _)
+loop-holds c = let d = c .before in (omega arith, refl, keying-start (same d) (frame d) (d .args .f .count) (d .args .points .now) (d .args .keys .now) _)
 
 neighbour-requires : tie.Need-neighbour-requires Inv-loop μ-loop
-neighbour-requires c κs = let d = c .before .before in let w = c .loop-test .taken in (omega (arith, w, points-long d), omega (arith, w, n-most d), d .pre .1 .1 .0)
+neighbour-requires c κs = let d = c .before .before .before in let w = c .loop-test .taken in (omega (arith, w, points-long d), omega (arith, w, n-most d), d .pre .1 .1 .0)
 
-slice-aggregate-class-of : tie.Need-slice-aggregate-class-of Inv-loop μ-loop
-slice-aggregate-class-of c = sym (c .before .before .before .loop .inv .1)
+-- the number of the class of point i
+class-is : (l : At) → l .loop .i < l .before .before .args .n → Numbers l (getD (l .before .before .args .classes .now) (l .loop .i) 0)
+class-is l w =
+    let d = l .before .before in
+    d .pre .1 .1 .1 .1 (l .loop .i) w ∙ ap (place (same d (row (d .args .points .now) (l .loop .i)))) (sym (l .loop .inv .2 .num .heads-are))
 
-class-of-requires : tie.Need-class-of-requires Inv-loop μ-loop
-class-of-requires c κs =
-    let l = c .before .before .before .before in
-    let d = l .before in
-    let w = c .before .before .before .loop-test .taken in
-    let x = c .before .before .neighbour in
-    let N = l .loop .inv .2 .num in
-    let h = l .loop .inv .1 in
-    let z = l .loop .inv .2 .size in (
-      d .pre .0,
-      (
-        (omega (arith, w, points-long d), omega (arith, w, n-most d), omega (arith, w, h, few l, n-most d), omega (arith, w, few l, n-most d), omega (arith, w, z, keys-long d)),
-        (
-          λ a lt. let q = N .below a lt in (omega (arith, w, q, points-long d), omega (arith, w, q, n-most d)),
-          (
-            keying-class (same d) (frame d) (d .args .f .count) (d .args .points .now) (d .args .keys .now) (l .loop .keys) (l .loop .heads) (l .loop .k) (l .loop .i) (l .loop .inv .2),
-            (line l (x .result) (x .ensures .1), d .pre .1 .1 .0),
-          ),
-        ),
-      ),
-    )
+-- it is small
+class-low : (l : At) → l .loop .i < l .before .before .args .n → getD (l .before .before .args .classes .now) (l .loop .i) 0 < 4096
+class-low l w = omega (arith, w, most l (getD (l .before .before .args .classes .now) (l .loop .i) 0) w (class-is l w), few l, n-most (l .before .before))
+
+mul-c : tie.Need-mul-c Inv-loop μ-loop
+mul-c c = let l = c .before .before in let d = l .before .before in let w = c .before .loop-test .taken in omega (arith, w, n-most d)
+
+shared-slice-read-c : tie.Need-shared-slice-read-c Inv-loop μ-loop
+shared-slice-read-c c = let l = c .before .before .before in let d = l .before .before in let w = c .before .before .loop-test .taken in omega (arith, w, d .pre .1 .0 .5)
+
+cast-c : tie.Need-cast-c Inv-loop μ-loop
+cast-c c = let l = c .before .before .before in let d = l .before .before in let w = c .before .before .loop-test .taken in omega (arith, class-low l w)
 
 mul-heads : tie.Need-mul-heads Inv-loop μ-loop
-mul-heads c = let l = c .before .before .before .before .before in let w = c .before .before .before .before .loop-test .taken in omega (arith, w, few l, n-most (l .before))
+mul-heads c = let l = c .before .before .before in let d = l .before .before in let w = c .before .before .loop-test .taken in omega (arith, w, few l, n-most d)
 
 array-write-heads : tie.Need-array-write-heads Inv-loop μ-loop
-array-write-heads c = let l = c .before .before .before .before .before in let w = c .before .before .before .before .loop-test .taken in omega (arith, w, few l, n-most (l .before))
+array-write-heads c = let l = c .before .before .before in let d = l .before .before in let w = c .before .before .loop-test .taken in omega (arith, w, few l, n-most d)
 
 one-more-requires : tie.Need-one-more-requires Inv-loop μ-loop
-one-more-requires c κs = let l = c .before .before .before .before .before in let w = c .before .before .before .before .loop-test .taken in omega (arith, w, few l, n-most (l .before))
+one-more-requires c κs = let l = c .before .before .before in let d = l .before .before in let w = c .before .before .loop-test .taken in omega (arith, w, few l, n-most d)
 
 mul-h : tie.Need-mul-h Inv-loop μ-loop
-mul-h c =
-    let l = c .before .before .before .before .before .before in
-    let w = c .before .before .before .before .before .loop-test .taken in
-    let x = c .before .class-of in
-    omega (arith, w, most l (x .result) w (x .ensures), few l, n-most (l .before))
+mul-h c = let l = c .before .before .before .before in let d = l .before .before in let w = c .before .before .before .loop-test .taken in omega (arith, class-low l w)
 
 array-read-h : tie.Need-array-read-h Inv-loop μ-loop
-array-read-h c =
-    let l = c .before .before .before .before .before .before in
-    let w = c .before .before .before .before .before .loop-test .taken in
-    let x = c .before .class-of in
-    omega (arith, w, most l (x .result) w (x .ensures), few l, n-most (l .before))
+array-read-h c = let l = c .before .before .before .before in let d = l .before .before in let w = c .before .before .before .loop-test .taken in omega (arith, class-low l w)
 
 group-of-requires : tie.Need-group-of-requires Inv-loop μ-loop
 group-of-requires c κs =
-    let l = c .before .before .before .before .before .before .before in
-    let d = l .before in
-    let w = c .before .before .before .before .before .before .loop-test .taken in
-    let x = c .before .before .class-of in
-    let y = c .before .before .before .before .before .neighbour in
-    let q = most l (x .result) w (x .ensures) in
-    let p = low l (x .result) w (x .ensures) in
+    let l = c .before .before .before .before .before in
+    let d = l .before .before in
+    let w = c .before .before .before .before .loop-test .taken in
+    let y = c .before .before .before .neighbour in
+    let x = getD (d .args .classes .now) (l .loop .i) 0 in
+    let p = low l x w (class-is l w) in
     let z = l .loop .inv .2 .size in (
       d .pre .0,
       (
-        (d .pre .1 .0 .0, d .pre .1 .0 .1, omega (arith, w, q, few l, n-most d)),
+        (d .pre .1 .0 .0, d .pre .1 .0 .1, class-low l w),
         (
           (omega (arith, w, points-long d), omega (arith, w, p, points-long d), omega (arith, w, z, keys-long d)),
           (
@@ -158,8 +143,8 @@ group-of-requires c κs =
             (
               d .pre .1 .1 .0,
               (
-                head-same (same d) (class-refl (d .pre .0)) (frame d) (d .args .f .count) (d .args .points .now) (d .args .keys .now) (l .loop .keys) (l .loop .heads) (l .loop .k) (l .loop .i) (x .result) (l .loop .inv .2) (room l w) (omega (arith, w, n-most d)) (x .ensures),
-                λ h. (copied l (x .result) (y .result) (x .ensures) (y .ensures .1) h, l .loop .inv .2 .within (y .result) h),
+                head-same (same d) (class-refl (d .pre .0)) (frame d) (d .args .f .count) (d .args .points .now) (d .args .keys .now) (l .loop .keys) (l .loop .heads) (l .loop .k) (l .loop .i) x (l .loop .inv .2) (room l w) (omega (arith, w, n-most d)) (class-is l w),
+                λ h. (copied l x (y .result) (class-is l w) (y .ensures .1) h, l .loop .inv .2 .within (y .result) h),
               ),
             ),
           ),
@@ -169,24 +154,23 @@ group-of-requires c κs =
 
 put-row-requires : tie.Need-put-row-requires Inv-loop μ-loop
 put-row-requires c κs =
-    let l = c .before .before .before .before .before .before .before .before .before in
-    let d = l .before in
-    let w = c .before .before .before .before .before .before .before .before .loop-test .taken in
+    let l = c .before .before .before .before .before .before .before in
+    let d = l .before .before in
+    let w = c .before .before .before .before .before .before .loop-test .taken in
     let z = l .loop .inv .2 .size in
     ((omega (arith, w, z, keys-long d), omega (arith, w, n-most d)), c .before .group-of .ensures .1)
 
 add-i : tie.Need-add-i Inv-loop μ-loop
-add-i c = let l = c .before .before .before .before .before .before .before .before .before .before .before in let w = c .before .before .before .before .before .before .before .before .before .before .loop-test .taken in omega (arith, w, n-most (l .before))
+add-i c = let l = c .before .before .before .before .before .before .before .before .before in let d = l .before .before in let w = c .before .before .before .before .before .before .before .before .loop-test .taken in omega (arith, w, n-most d)
 
 loop-less : tie.Need-loop-less Inv-loop μ-loop
-loop-less c = let w = c .before .before .before .before .before .before .before .before .before .before .loop-test .taken in omega (arith, w)
+loop-less c = let w = c .before .before .before .before .before .before .before .before .loop-test .taken in omega (arith, w)
 
 loop-again : tie.Need-loop-again Inv-loop μ-loop
 loop-again c =
-    let l = c .before .before .before .before .before .before .before .before .before .before .before in
-    let d = l .before in
-    let w = c .before .before .before .before .before .before .before .before .before .before .loop-test .taken in
-    let x = c .before .before .before .before .before .before .class-of in
+    let l = c .before .before .before .before .before .before .before .before .before in
+    let d = l .before .before in
+    let w = c .before .before .before .before .before .before .before .before .loop-test .taken in
     let o = c .before .before .before .before .before .one-more in
     let g = c .before .before .before .group-of in
     let z = l .loop .inv .2 .size in (
@@ -194,7 +178,7 @@ loop-again c =
       length-set (l .loop .heads) (l .loop .k) (l .loop .i) ∙ l .loop .inv .1,
       subst (λ (u : List ℤ). Keying (same d) (frame d) (d .args .f .count) (d .args .points .now) (d .args .keys .now) u (set (l .loop .heads) (l .loop .k) (l .loop .i)) (o .result) (l .loop .i + 1))
           (sym (c .before .put-row .ensures))
-          (keying-more (same d) (class-refl (d .pre .0)) (frame d) (d .args .f .count) (d .args .points .now) (d .args .keys .now) (l .loop .keys) (l .loop .heads) (l .loop .k) (l .loop .i) (x .result) (l .loop .inv .2) (room l w) (omega (arith, w, n-most d)) (x .ensures) (o .result) (o .ensures .0) (o .ensures .1) (g .result) (omega (arith, w, z, keys-long d)) (g .ensures .1) (g .ensures .0)),
+          (keying-more (same d) (class-refl (d .pre .0)) (frame d) (d .args .f .count) (d .args .points .now) (d .args .keys .now) (l .loop .keys) (l .loop .heads) (l .loop .k) (l .loop .i) (getD (d .args .classes .now) (l .loop .i) 0) (l .loop .inv .2) (room l w) (omega (arith, w, n-most d)) (class-is l w) (o .result) (o .ensures .0) (o .ensures .1) (g .result) (omega (arith, w, z, keys-long d)) (g .ensures .1) (g .ensures .0)),
     )
 
 same-length : tie.Need-same-length Inv-loop μ-loop
@@ -203,7 +187,7 @@ same-length c = c .before .loop .inv .2 .size
 returns : tie.Need-returns Inv-loop μ-loop
 returns c =
     let l = c .before in
-    let d = l .before in
+    let d = l .before .before in
     let f = d .args .f in
     keying-end (f .p) (f .v1) (f .v2) (f .v3) (f .count) (d .args .r) (d .args .points .now) (d .args .keys .now) (l .loop .keys) (l .loop .heads) (l .loop .k) (l .loop .i) (d .args .n) (l .loop .inv .2) (omega (arith, l .loop .inv .1, few l, n-most d)) (omega arith)
 
@@ -215,8 +199,9 @@ key-table-spec =
     μ-loop
     loop-holds
     neighbour-requires
-    slice-aggregate-class-of
-    class-of-requires
+    mul-c
+    shared-slice-read-c
+    cast-c
     mul-heads
     array-write-heads
     one-more-requires
