@@ -1,19 +1,21 @@
 -- Laws of least and greatest, and of the inner product, one more at a time, for the loops that work out the steps.
 -- Assumes nothing.
-use mathlib.Core.Path.{_≡_, refl, sym, ap, ap₂, _∙_}
+use mathlib.Core.Path.{_≡_, refl, sym, ap, ap₂, subst, _∙_}
+use mathlib.Core.Logic.{_⊎_, inl, inr}
 use mathlib.Core.Bool.{Bool, true, false}
-use mathlib.Core.List.{List, [], _∷_, _++_, map, append-assoc}
-use Prim.Native.Nat.{ℕ, suc, _+_, _<_, _≤_, max}
+use mathlib.Core.List.{List, [], _∷_, _++_, map, append-assoc, map-append}
+use Prim.Native.Nat.{ℕ, zero, suc, _+_, _<_, _≤_, max}
 use native.Mathlib.Numerals.{add-one}
 use native.Mathlib.Omega.{arith}
 use borrow.Author.Tests.{ltb-true, ltb-false}
 use lib.Dec.{ltb}
 use lib.IntN.{ℤ, natAbs, _-ℤ_}
-use lib.ListN.{length, getD, drop, set, length-append, length-drop, length-map}
-use lib.Seq.{drop-cons, drop-length, set-at}
+use lib.ListN.{length, getD, take, drop, set, length-append, length-drop, length-map}
+use lib.Seq.{take-suc, drop-cons, set-at}
 use lib.Signed.{ltZ, _≤ℤ_}
 use Rattle.integers.specs.Linear.{ints, dif, sizes}
-use Rattle.integers.specs.Lists.{greatest, tab, tab-more, tab-list, length-tab}
+use Rattle.integers.specs.Tests.{signed}
+use Rattle.integers.specs.Lists.{split, greatest, tab, tab-more, tab-list, length-tab}
 use Rattle.integers.specs.Vector.{Vector}
 use Rattle.nest.specs.declared.LoopNest.{LoopNest}
 use Rattle.nest.specs.Nest.{timeOf}
@@ -22,18 +24,62 @@ use Rattle.partition.specs.Partition.{stepsOf, stepCount}
 use Rattle.partition.specs.Projection.{leastZ, step}
 use Rattle.partition.proofs.ListFacts.{getD-map}
 
--- ---- the least, from the last to the first
-pub least-more : (f : Vector → ℤ) (ps : List Vector) (k : ℕ) → suc k < length ps
-    → leastZ (map f (drop k ps)) ≡ leastZ (f (getD ps k []) ∷ leastZ (map f (drop (suc k) ps)) ∷ [])
-unfolding leastZ
-least-more f ps k h =
-    let e : drop k ps ≡ getD ps k [] ∷ getD ps (suc k) [] ∷ drop (suc (suc k)) ps = drop-cons ps k [] (omega arith) ∙ ap (λ l. getD ps k [] ∷ l) (drop-cons ps (suc k) [] h) in
-    ap (λ l. leastZ (map f l)) e ∙ ap (λ l. leastZ (f (getD ps k []) ∷ leastZ (map f l) ∷ [])) (sym (drop-cons ps (suc k) [] h))
+-- ---- the least, from the first to the last
 
-pub least-last : (f : Vector → ℤ) (ps : List Vector) (k : ℕ) → suc k ≡ length ps → leastZ (map f (drop k ps)) ≡ f (getD ps k [])
+-- two numbers, each at most the other
+antisymmetric : (a b : ℤ) → a ≤ℤ b → b ≤ℤ a → a ≡ b
+antisymmetric a b p q = omega ints
+
+-- the lesser of two numbers is at most both, and one of them
+lesser-is : (a b : ℤ) → (leastZ (a ∷ b ∷ []) ≤ℤ a) × (leastZ (a ∷ b ∷ []) ≤ℤ b) × ((leastZ (a ∷ b ∷ []) ≡ a) ⊎ (leastZ (a ∷ b ∷ []) ≡ b))
 unfolding leastZ
-least-last f ps k h =
-    ap (λ l. leastZ (map f l)) (drop-cons ps k [] (omega arith) ∙ ap (λ n. getD ps k [] ∷ drop n ps) h ∙ ap (λ l. getD ps k [] ∷ l) (drop-length ps))
+lesser-is a b =
+    split (ltZ b a)
+    (λ t. rw (t, leastZ) (omega signed, omega ints, inr refl))
+    (λ t. rw (t, leastZ) (omega ints, omega signed, inl refl))
+
+-- at most a number that is one of these
+below-one : (m x a b : ℤ) → (x ≡ a) ⊎ (x ≡ b) → m ≤ℤ a → m ≤ℤ b → m ≤ℤ x
+below-one m x a b (inl e) p q = subst (λ (z : ℤ). m ≤ℤ z) (sym e) p
+below-one m x a b (inr e) p q = subst (λ (z : ℤ). m ≤ℤ z) (sym e) q
+
+-- the order of two numbers, and that of a number before the others, does not matter
+lesser-turned : (a b : ℤ) → leastZ (a ∷ b ∷ []) ≡ leastZ (b ∷ a ∷ [])
+lesser-turned a b =
+    let p = lesser-is a b in
+    let q = lesser-is b a in
+    antisymmetric (leastZ (a ∷ b ∷ [])) (leastZ (b ∷ a ∷ [])) (below-one (leastZ (a ∷ b ∷ [])) (leastZ (b ∷ a ∷ [])) b a (q .2) (p .1) (p .0)) (below-one (leastZ (b ∷ a ∷ [])) (leastZ (a ∷ b ∷ [])) a b (p .2) (q .1) (q .0))
+
+lesser-past : (x z m : ℤ) → leastZ (x ∷ leastZ (z ∷ m ∷ []) ∷ []) ≤ℤ leastZ (z ∷ leastZ (x ∷ m ∷ []) ∷ [])
+lesser-past x z m =
+    let p = lesser-is x (leastZ (z ∷ m ∷ [])) in
+    let i = lesser-is z m in
+    let q = lesser-is z (leastZ (x ∷ m ∷ [])) in
+    let j = lesser-is x m in
+    let L = leastZ (x ∷ leastZ (z ∷ m ∷ []) ∷ []) in
+    below-one L (leastZ (z ∷ leastZ (x ∷ m ∷ []) ∷ [])) z (leastZ (x ∷ m ∷ [])) (q .2) (omega (ints, p .1, i .0)) (below-one L (leastZ (x ∷ m ∷ [])) x m (j .2) (p .0) (omega (ints, p .1, i .1)))
+
+-- one number more, behind the others
+least-snoc : (x : ℤ) (xs : List ℤ) (z : ℤ) → leastZ ((x ∷ xs) ++ (z ∷ [])) ≡ leastZ (z ∷ leastZ (x ∷ xs) ∷ [])
+unfolding leastZ
+least-snoc x [] z = lesser-turned x z
+least-snoc x (y ∷ ys) z =
+    let m = leastZ (y ∷ ys) in
+    ap (λ (a : ℤ). leastZ (x ∷ a ∷ [])) (least-snoc y ys z) ∙ antisymmetric (leastZ (x ∷ leastZ (z ∷ m ∷ []) ∷ [])) (leastZ (z ∷ leastZ (x ∷ m ∷ []) ∷ [])) (lesser-past x z m) (lesser-past z x m)
+
+-- the first point, and one point more
+pub least-first : (f : Vector → ℤ) (ps : List Vector) → 0 < length ps → leastZ (map f (take 1 ps)) ≡ f (getD ps 0 [])
+unfolding leastZ
+least-first f [] h = absurd (omega arith)
+least-first f (p ∷ ps) h = refl
+
+pub least-more : (f : Vector → ℤ) (ps : List Vector) (k : ℕ) → 0 < k → k < length ps
+    → leastZ (map f (take (k + 1) ps)) ≡ leastZ (f (getD ps k []) ∷ leastZ (map f (take k ps)) ∷ [])
+least-more f ps zero h l = absurd (omega arith)
+least-more f [] (suc k) h l = absurd (omega arith)
+least-more f (p ∷ ps) (suc k) h l =
+    ap (λ (v : List ℤ). leastZ v) (ap (λ i. map f (take i (p ∷ ps))) (add-one (suc k)) ∙ ap (map f) (take-suc (p ∷ ps) (suc k) [] l) ∙ map-append f (take (suc k) (p ∷ ps)) (getD ps k [] ∷ []))
+    ∙ least-snoc (f p) (map f (take k ps)) (f (getD ps k []))
 
 -- ---- the greatest, from the first to the last
 larger-is : (x m : ℕ) → elim (ltb x m) as (λ _. ℕ) [ true ↦ m | false ↦ x ] ≡ max x m

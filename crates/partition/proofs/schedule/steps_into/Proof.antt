@@ -1,31 +1,38 @@
--- `steps_into` meets its contract. The loop's invariant: the first k steps stand in the table, and the greatest of them is known. Assumes nothing.
+-- `steps_into` meets its contract. The loop's invariant: the first k steps stand in the table, and the greatest of them is known; the index point is that of iteration k. Assumes nothing.
 use borrow.Author.Needs.{needs}
-use mathlib.Core.Path.{_≡_, sym, ap, subst, _∙_}
+use mathlib.Core.Path.{_≡_, sym, ap, ap₂, subst, subst₂, _∙_}
+use mathlib.Core.List.{[], map}
 use Prim.Native.Nat.{ℕ, _+_, _-_, _≤_, _<_}
 use native.Mathlib.Omega.{arith}
-use lib.IntN.{ℤ, natAbs}
-use lib.ListN.{length}
+use lib.IntN.{ℤ, natAbs, _-ℤ_}
+use lib.ListN.{length, getD}
+use lib.Signed.{_≤ℤ_}
 use mir.Syntax.{w64}
-use mir.Val.{toZ}
+use mir.Val.{toZ, ofZ}
 use Rattle.integers.specs.Bounds.{told}
-use Rattle.nest.specs.Nest.{toℕ, depthOf}
+use Rattle.integers.specs.Vector.{dots}
+use Rattle.nest.specs.Nest.{toℕ, part, padded, timeOf, maxDepth}
 use Rattle.nest.specs.Points.{pointsOf}
-use Rattle.nest.proofs.Accepted.{few-points}
+use Rattle.nest.proofs.Accepted.{few-points, some-points}
+use Rattle.partition.specs.Projection.{leastZ, step}
+use Rattle.partition.proofs.ListFacts.{getD-mem}
+use Rattle.partition.proofs.Products.{time-small, row-small, row-product, row-few}
+use Rattle.partition.proofs.Steps.{least-below}
 use Rattle.partition.proofs.StepLaws.{stepAt, Stepped, stepped-start, stepped-length, stepped-more, stepped-end}
 use Rattle.partition.proofs.schedule.steps_into.Statement.{statement}
 use Rattle.partition.proofs.schedule.steps_into.Tie as tie
 
 abbrev Inv-loop : tie.InvT-loop
-Inv-loop s n steps₀ p least last₀ k₀ steps last k = (k ≤ n) × Stepped (stepAt s) steps₀ steps last k
+Inv-loop s n steps₀ p least last₀ point₀ k₀ steps last point k = (k ≤ n) × Stepped (stepAt s) steps₀ steps last k × (k < n → point ≡ padded maxDepth (getD (pointsOf s) k []))
 
 abbrev μ-loop : tie.MeasureT-loop
-μ-loop s n steps₀ p least last₀ k₀ steps last k = n - k
+μ-loop s n steps₀ p least last₀ point₀ k₀ steps last point k = n - k
 
 abbrev At : Type 0
 At = tie.At-loop Inv-loop μ-loop
 
 abbrev start : At → tie.Start Inv-loop μ-loop
-start l = l .before .before .before .before .before .before
+start l = l .before .before .before .before .before .before .before
 
 few : (d : tie.Start Inv-loop μ-loop) → d .args .n ≤ 4096
 few d = omega (arith, d .pre .1, few-points (d .args .s) (d .pre .0))
@@ -47,15 +54,47 @@ time-vector-requires c κs =
 least-product-requires : tie.Need-least-product-requires Inv-loop μ-loop
 least-product-requires c κs = let d = c .before .before .before .before in (d .pre .0, c .time-vector .ensures, d .pre .1)
 
-loop-holds : tie.Need-loop-holds Inv-loop μ-loop
-loop-holds c = let a = c .before .before .before .before .before .args in (omega arith, stepped-start (stepAt (a .s)) (a .steps .now))
+point-of-requires : tie.Need-point-of-requires Inv-loop μ-loop
+point-of-requires c κs = let d = c .before .before .before .before .before in (d .pre .0, some-points (d .args .s) (d .pre .0))
 
-step-at-requires : tie.Need-step-at-requires Inv-loop μ-loop
-step-at-requires c κs =
-    let d = start (c .before) in
-    let m = c .before .before .least-product in
-    let e = told (m .result) (m .ok) in
-    ((d .pre .0, c .before .before .before .time-vector .ensures, omega (arith, c .loop-test .taken, d .pre .1), e ∙ m .ensures .0), subst (λ (z : ℤ). natAbs z ≤ 64000) (sym e) (m .ensures .1))
+loop-holds : tie.Need-loop-holds Inv-loop μ-loop
+loop-holds c = let a = c .before .before .before .before .before .before .args in (omega arith, stepped-start (stepAt (a .s)) (a .steps .now), λ h. c .point-of .ensures)
+
+-- in the loop: the time vector, the least product and the turn's iteration
+abbrev In : Type 0
+In = tie.In-loop Inv-loop μ-loop
+
+below : (c : In) → c .before .loop .k < length (pointsOf (start (c .before) .args .s))
+below c = omega (arith, c .loop-test .taken, start (c .before) .pre .1)
+
+-- the inner product of its point, by the arrays
+product : (c : In) → dots (c .before .before .before .before .time-vector .result) (padded 4 (part (c .before .loop .point) 0 maxDepth)) ≡ dots (timeOf (start (c .before) .args .s)) (getD (pointsOf (start (c .before) .args .s)) (c .before .loop .k) [])
+product c =
+    let l = c .before in
+    let d = start l in
+    row-product (d .args .s) (d .pre .0) (l .loop .k) (below c) (l .before .before .before .time-vector .result) (l .loop .point) (l .before .before .before .time-vector .ensures) (l .loop .inv .2 (c .loop-test .taken))
+
+-- the least product, as the code has it
+least : (c : In) → toZ w64 (ofZ w64 (c .before .before .before .least-product .result)) ≡ leastZ (map (dots (timeOf (start (c .before) .args .s))) (pointsOf (start (c .before) .args .s)))
+least c = let m = c .before .before .before .least-product in told (m .result) (m .ok) ∙ m .ensures .0
+
+step-of-requires : tie.Need-step-of-requires Inv-loop μ-loop
+step-of-requires c κs =
+    let l = c .before in
+    let d = start l in
+    let a = d .args in
+    let m = l .before .before .least-product in
+    let v = l .before .before .before .time-vector in
+    let f = dots (timeOf (a .s)) in
+    let ps = pointsOf (a .s) in
+    let e = l .loop .inv .2 (c .loop-test .taken) in (
+      (time-small (a .s) (d .pre .0) (l .loop .k) (below c) (v .result) (l .loop .point) (v .ensures) e, row-small (a .s) (d .pre .0) (l .loop .k) (below c) (v .result) (l .loop .point) (v .ensures) e),
+      (
+        subst₂ (λ (x y : ℤ). x ≤ℤ y) (sym (least c)) (sym (product c)) (least-below f ps (getD ps (l .loop .k) []) (getD-mem ps (l .loop .k) [] (below c))),
+        row-few (a .s) (d .pre .0) (l .loop .k) (below c) (v .result) (l .loop .point) (v .ensures) e,
+        subst (λ (z : ℤ). natAbs z ≤ 64000) (sym (told (m .result) (m .ok))) (m .ensures .1),
+      ),
+    )
 
 mul-steps : tie.Need-mul-steps Inv-loop μ-loop
 mul-steps c = omega (arith, c .before .loop-test .taken, few (start (c .before .before)))
@@ -66,20 +105,29 @@ slice-write-steps c = let l = c .before .before in omega (arith, long l, c .befo
 larger-requires : tie.Need-larger-requires Inv-loop μ-loop
 larger-requires c κs = search needs
 
+next-point-requires : tie.Need-next-point-requires Inv-loop μ-loop
+next-point-requires c κs = start (c .before .before .before) .pre .0
+
 add-k : tie.Need-add-k Inv-loop μ-loop
-add-k c = omega (arith, c .before .before .loop-test .taken, few (start (c .before .before .before)))
+add-k c = omega (arith, c .before .before .before .loop-test .taken, few (start (c .before .before .before .before)))
 
 loop-less : tie.Need-loop-less Inv-loop μ-loop
-loop-less c = omega (arith, c .before .before .loop-test .taken)
+loop-less c = omega (arith, c .before .before .before .loop-test .taken)
 
 loop-again : tie.Need-loop-again Inv-loop μ-loop
+unfolding step
 loop-again c =
-    let l = c .before .before .before in
+    let g = c .before in
+    let i = g .before .before in
+    let l = i .before in
     let d = start l in
-    let t = c .before .before .loop-test .taken in
-    let r = c .before .step-at in (
+    let s = d .args .s in
+    let t = i .loop-test .taken in
+    let r = g .before .step-of in
+    let e : r .result ≡ stepAt s (l .loop .k) = r .ensures .0 ∙ ap₂ (λ (x y : ℤ). toℕ (x -ℤ y)) (product i) (least i) in (
       omega (arith, t),
-      stepped-more (stepAt (d .args .s)) (d .args .steps .now) (l .loop .steps) (l .loop .last) (l .loop .k) (r .result) (c .larger .result) (l .loop .inv .1) (omega (arith, t, d .pre .2)) (r .ensures .0) (r .ensures .1) (c .larger .ensures),
+      stepped-more (stepAt s) (d .args .steps .now) (l .loop .steps) (l .loop .last) (l .loop .k) (r .result) (g .larger .result) (l .loop .inv .1) (omega (arith, t, d .pre .2)) e (r .ensures .1) (g .larger .ensures),
+      λ h. c .next-point .ensures (l .loop .k) (omega (arith, h, d .pre .1)) (l .loop .inv .2 t),
     )
 
 cast-result : tie.Need-cast-result Inv-loop μ-loop
@@ -108,11 +156,13 @@ steps-into-spec =
     to-size-requires
     time-vector-requires
     least-product-requires
+    point-of-requires
     loop-holds
-    step-at-requires
+    step-of-requires
     mul-steps
     slice-write-steps
     larger-requires
+    next-point-requires
     add-k
     loop-less
     loop-again
