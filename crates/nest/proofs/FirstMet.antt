@@ -5,8 +5,8 @@ use mathlib.Core.List.{List, [], _∷_, _++_, List·Memᴰ, List·Memᴰ·head, 
 use Prim.Native.Nat.{ℕ, zero, suc, _<_, _≤_}
 use native.Mathlib.Nat.{not-suc-le-zero, le-of-suc-le-suc}
 use native.Mathlib.Omega.{arith}
-use borrow.Author.Tests.{ltb-true}
-use lib.Dec.{ltb, lit<}
+use borrow.Author.Tests.{ltb-true, leb-true}
+use lib.Dec.{ltb, leb, lit<}
 use lib.ListN.{length, getD}
 use lib.IntN.{ℤ, pos, negsuc}
 use Rattle.integers.specs.Linear.{ints}
@@ -58,6 +58,21 @@ listed equalDependences = mem-at order 8 (lit< tt)
 listed againstTime = mem-at order 9 (lit< tt)
 listed zeroTime = mem-at order 10 (lit< tt)
 listed badWeight = mem-at order 11 (lit< tt)
+
+-- what a test says of all of a list it says of each
+abbrev passes : (Refusal → Bool) → List Refusal → Bool
+passes p [] = true
+passes p (r ∷ rs) = p r && passes p rs
+
+pass-mem : (p : Refusal → Bool) (rs : List Refusal) → passes p rs ≡ true → (r : Refusal) → List·Memᴰ r rs → p r ≡ true
+pass-mem p [] h r m = elim m [ ]
+pass-mem p (q ∷ rs) h r (List·Memᴰ·head e) = ap p e ∙ and-true (p q) (passes p rs) h .0
+pass-mem p (q ∷ rs) h r (List·Memᴰ·tail m) = pass-mem p rs (and-true (p q) (passes p rs) h .1) r m
+
+-- 13 is the last
+pub at-most : (r : Refusal) → number r ≤ 13
+unfolding number
+at-most r = leb-true (number r) 13 (pass-mem (λ q. leb (number q) 13) order refl r (listed r))
 
 -- no refusal's number is 0: badDepth's is the least, and it is 2
 pub not-zero : (r : Refusal) → number r ≡ 0 → ⊥

@@ -27,11 +27,11 @@ less e = ltZ-yes (true-T e)
 flag : {a b : ℤ} → a <ℤ b → ltZ a b ≡ true
 flag h = T-true (h .lt)
 
-outside-words : (low high z : ℤ) → outside low high z ≡ true → Outside low high z
+pub outside-words : (low high z : ℤ) → outside low high z ≡ true → Outside low high z
 unfolding outside
 outside-words low high z e = ⊎-elim (λ t. inl (less t)) (λ t. inr (less t)) (or-true (ltZ z low) (ltZ high z) e)
 
-words-outside : (low high z : ℤ) → Outside low high z → outside low high z ≡ true
+pub words-outside : (low high z : ℤ) → Outside low high z → outside low high z ≡ true
 unfolding outside
 words-outside low high z (inl h) = or-left (ltZ z low) (ltZ high z) (flag h)
 words-outside low high z (inr h) = or-right (ltZ z low) (ltZ high z) (flag h)

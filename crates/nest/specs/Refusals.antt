@@ -4,7 +4,7 @@
 use mathlib.Core.Path.{_≡_}
 use mathlib.Core.Bool.{Bool, true, false, not, _&&_, _||_}
 use mathlib.Core.List.{List, [], _∷_, _++_}
-use mathlib.Core.Logic.{_⊎_}
+use mathlib.Core.Logic.{_⊎_, _↔_}
 use Prim.Native.Nat.{ℕ, zero, suc, _+_, _<_, _≤_}
 use lib.Dec.{ltb, eqb, leb}
 use lib.IntN.{ℤ, pos, negℤ}
@@ -168,3 +168,15 @@ Condition s zeroTime = dots (timeOf s) (timeOf s) ≡ pos 0
 Condition s badWeight =
     Outside (pos 0) (pos maxBoundary) (s .boundary)
     ⊎ ((i : ℕ) × (i < countOf s) × Outside (pos 0) (pos maxWeight) (component (weightsOf s) i))
+
+-- ---- the law of a call's refusals
+
+-- number k is met of a nest
+abbrev pub Met : LoopNest → ℕ → Type 0
+Met s k = (r : Refusal) × (number r ≡ k) × Condition s r
+
+-- A call answers a number: k exactly if k is met and nothing smaller is, 0 exactly if nothing is met.
+pub record FirstOf (Meets : ℕ → Type 0) (answer : ℕ) : Type 0 where
+  pub from-one : (k : ℕ) → Meets k → 1 ≤ k
+  pub refused : (k : ℕ) → 1 ≤ k → (answer ≡ k) ↔ (Meets k × ((q : ℕ) → q < k → Meets q → ⊥))
+  pub done : (answer ≡ 0) ↔ ((k : ℕ) → Meets k → ⊥)

@@ -1,10 +1,10 @@
 -- The theorems about texts (RoundTrip, ReadPrefix), and the laws that the functions' proofs share.
 pub mod RoundTrip
+pub mod Answers
 pub mod ReadPrefix
 pub mod FieldLaws
 pub mod FieldBack
 pub mod LineBack
-pub mod NestBack
 pub mod NestLines
 pub mod Columns
 pub mod TextLength

@@ -12,7 +12,7 @@ use Rattle.integers.specs.Lists.{tab, length-tab, tab-list, map-tab}
 use Rattle.nest.specs.declared.LoopNest.{LoopNest}
 use Rattle.nest.specs.Nest.{Limit, part, depthOf, countOf, limitAt, limitsOf, timeOf, dependenceAt, dependencesOf, weightsOf, nestOf, cleared, maxDepth}
 use Rattle.nest_text.specs.Text.{linesOf, widths, at, nestFrom}
-use Rattle.nest_text.proofs.NestBack.{Fitting, made-limits, made-time, made-dependences, made-weights, made-cleared}
+use Rattle.nest.proofs.Places.{Fitting, made-limits, made-time, made-dependences, made-weights, made-cleared}
 
 -- the numbers of lines
 abbrev pub Lines : Type 0

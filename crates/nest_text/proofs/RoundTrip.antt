@@ -24,7 +24,7 @@ use Rattle.nest.proofs.Spans.{Spans, spans, HeaderSpans, header-spans}
 use Rattle.nest.proofs.Refused.{accepted, none-of}
 use Rattle.nest_text.proofs.TextLength.{shapeLine, shape-columns, limits-columns, time-columns, dependence-columns, boundary-columns, weight-columns}
 use Rattle.nest_text.proofs.LineBack.{AllInColumns, LinesInColumns, LineRead, line-read, lines-read, line-again, lines-again, lines-widths, numbers-length}
-use Rattle.nest_text.proofs.NestBack.{same-holds, cleared-same}
+use Rattle.nest.proofs.Places.{same-holds, accepted-same}
 use Rattle.nest_text.proofs.NestLines.{Lines, pair, bodyLines, nest-again, body-widths, triple-back, Parts, parts, made, made-is, made-depth, made-count, made-cube, made-lines, made-clear}
 
 -- ---- every number of every line has room in six columns
@@ -155,7 +155,7 @@ shape-holds s e =
 
 -- the nest that is read where an accepted one was written is accepted
 pub cleared-accepted : (s : LoopNest) → refusal s ≡ 0 → (rs : List Refusal) → firstMet (cleared s) rs ≡ 0
-cleared-accepted s e rs = none-of (cleared s) (λ r. same-holds (cleared-same s (spans s e)) r ∙ accepted s e r) rs
+cleared-accepted s e rs = none-of (cleared s) (λ r. same-holds (accepted-same s e) r ∙ accepted s e r) rs
 
 -- reading what was written gives the same nest, with 0 in the places that are no part of it
 pub read-written : (s : LoopNest) → refusal s ≡ 0 → (readRefusal (textOf s) ≡ 0) × (readNest (textOf s) ≡ cleared s)

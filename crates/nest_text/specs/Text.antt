@@ -1,15 +1,17 @@
 -- The text of a loop nest (document 01, "The sheet"): what is written for a nest, and what a text is read as, with its refusals in the document's order.
 -- Assumes nothing.
+use mathlib.Core.Path.{_≡_}
 use mathlib.Core.Bool.{Bool, true, false, not, _&&_}
+use mathlib.Core.Logic.{_⊎_}
 use mathlib.Core.List.{List, [], _∷_, _++_, map, flatMap}
-use Prim.Native.Nat.{ℕ, zero, suc, _+_, _*_}
+use Prim.Native.Nat.{ℕ, zero, suc, _+_, _*_, _<_}
 use lib.Dec.{eqb, leb}
 use lib.IntN.{ℤ, pos}
 use lib.ListN.{length, getD, take, drop, replicate}
 use Rattle.integers.specs.Lists.{any, tab}
 use Rattle.nest.specs.declared.LoopNest.{LoopNest}
 use Rattle.nest.specs.Nest.{Limit, toℕ, depthOf, countOf, limitsOf, timeOf, dependencesOf, weightsOf, nestOf, emptyNest, maxDepth, maxDependences}
-use Rattle.nest.specs.Refusals.{firstMet, headerOrder, bodyOrder, orElse, shortBuffer}
+use Rattle.nest.specs.Refusals.{firstMet, headerOrder, bodyOrder, orElse, shortBuffer, Met}
 use Rattle.nest_text.specs.declared.fields.Field.{Field}
 use Rattle.nest_text.specs.declared.fields.Field.the-variants.{Number, Malformed}
 use Rattle.nest_text.specs.Fields.{Bytes, columns, newline, fieldOf, readOf}
@@ -127,6 +129,10 @@ readNest bs = elim (eqb (readRefusal bs) 0) [ true ↦ bodyOf bs | false ↦ emp
 -- that number, then 14 for a buffer with fewer bytes than there are to write
 unfoldable pub writeRefusal : ℕ → Bytes → ℕ → ℕ
 writeRefusal number bytes room = orElse number (shortBuffer (length bytes) room)
+
+-- the conditions of `write`'s numbers in the document's words (proofs/Answers.antt: the first that is met is answered)
+abbrev pub WriteMet : LoopNest → ℕ → ℕ → Type 0
+WriteMet s room k = Met s k ⊎ ((k ≡ 14) × (room < length (textOf s)))
 
 -- how many bytes are written: none where the call is refused
 unfoldable pub writtenLength : ℕ → Bytes → ℕ → ℕ

@@ -2,3 +2,5 @@
 pub mod Counts
 pub mod RowLaws
 pub mod SpanLaws
+pub mod Answers
+pub mod Ignored

@@ -3,3 +3,5 @@ pub mod LoopLaws
 pub mod SourceLaws
 pub mod SumLaws
 pub mod FillLaws
+pub mod Answers
+pub mod Ignored

@@ -1,9 +1,11 @@
 -- The sequential loop (document 01, "Value" and the end of "The run"), under any rule; the weighted sum is the rule of a nest.
 -- Assumes nothing.
+use mathlib.Core.Path.{_≡_}
 use mathlib.Core.Bool.{true, false}
+use mathlib.Core.Logic.{_⊎_}
 use mathlib.Core.List.{List, [], _∷_, _++_, zipWith}
 use mathlib.Core.Option.{Option, none, some}
-use Prim.Native.Nat.{ℕ, zero, suc, _+_, _*_, _%_}
+use Prim.Native.Nat.{ℕ, zero, suc, _+_, _*_, _%_, _<_}
 use lib.Dec.{eqb}
 use lib.IntN.{ℤ}
 use lib.ListN.{length, getD, drop}
@@ -12,7 +14,7 @@ use Rattle.integers.specs.Vector.{Vector}
 use Rattle.nest.specs.declared.LoopNest.{LoopNest}
 use Rattle.nest.specs.Nest.{toℕ, countOf, weightsOf}
 use Rattle.nest.specs.Points.{pointsOf}
-use Rattle.nest.specs.Refusals.{refusal, orElse, shortBuffer}
+use Rattle.nest.specs.Refusals.{refusal, orElse, shortBuffer, Met}
 use Rattle.nest.specs.Sources.{sourceRank}
 
 -- ---- the loop
@@ -70,6 +72,10 @@ valuesOf s = sequential (ruleOf s) s
 -- 2 to 13, then 14 for a table with fewer entries than there are iterations
 unfoldable pub fillRefusal : LoopNest → ℕ → ℕ
 fillRefusal s entries = orElse (refusal s) (shortBuffer (length (pointsOf s)) entries)
+
+-- the conditions of these numbers in the document's words (proofs/Answers.antt: the first that is met is answered)
+abbrev pub FillMet : LoopNest → ℕ → ℕ → Type 0
+FillMet s entries k = Met s k ⊎ ((k ≡ 14) × (entries < length (pointsOf s)))
 
 -- what the table then holds: the values and what stood behind them, or all that it held before
 unfoldable pub filled : LoopNest → List ℕ → List ℕ
