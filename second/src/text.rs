@@ -36,7 +36,7 @@ fn split_first_line(text: &[u8]) -> Option<(&[u8], &[u8])> {
 }
 
 /// All lines of a text, without their line ends. None if bytes follow the last line end.
-fn split_lines(text: &[u8]) -> Option<Vec<&[u8]>> {
+pub fn split_lines(text: &[u8]) -> Option<Vec<&[u8]>> {
     let mut lines = Vec::new();
     let mut remaining = text;
     while !remaining.is_empty() {
@@ -49,7 +49,7 @@ fn split_lines(text: &[u8]) -> Option<Vec<&[u8]>> {
 
 /// The numbers of a line that has exactly the given number of fields; none otherwise. Each field is
 /// handed on as the slice of its columns.
-fn read_fields(line: &[u8], count: usize) -> Option<Vec<i64>> {
+pub fn read_fields(line: &[u8], count: usize) -> Option<Vec<i64>> {
     if line.len() != count * COLUMNS {
         return None;
     }
