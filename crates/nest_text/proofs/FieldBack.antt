@@ -38,7 +38,7 @@ value-written (suc f) n acc h l = by (ltb n 10) refl (λ p q. value-written f (n
         let m = two-digits n (suc f) (ltb-false n 10 e) h in
         go (tenth n f (rw (add-one f) h)) (omega arith) ∙ ap (λ (m : ℕ). valueOf m acc) (digit-next n)
 
-digit-is : (m : ℕ) → m < 10 → isDigit (48 + m) ≡ true
+pub digit-is : (m : ℕ) → m < 10 → isDigit (48 + m) ≡ true
 digit-is m h = simp (le-leb 48 (48 + m) (omega arith), le-leb (48 + m) 57 (omega arith))
 
 all-written : (f n : ℕ) (acc : List ℕ) → allDigits acc ≡ true → allDigits (digitsTo f n acc) ≡ true
@@ -85,7 +85,7 @@ blanks-before zero [] h = refl
 blanks-before zero (b ∷ t) h = rw (ne-eqb b 32 h) refl
 blanks-before (suc k) t h = rw (blanks-before k t h) (omega arith)
 
-spaced : (k : ℕ) (t : List ℕ) → (getD t 0 0 ≡ 32 → ⊥) → readOf (replicate k 32 ++ t) ≡ signedOf t
+pub spaced : (k : ℕ) (t : List ℕ) → (getD t 0 0 ≡ 32 → ⊥) → readOf (replicate k 32 ++ t) ≡ signedOf t
 unfolding readOf
 spaced k t h = rw (blanks-before k t h, drop-at (replicate k 32) t k (length-replicate k 32)) refl
 
@@ -150,7 +150,7 @@ one-digit zero a acc h l = absurd (omega arith)
 one-digit (suc f) a acc h l = rw (lt-ltb a 10 h) refl
 
 -- what an answer says of the digits
-value-of : (t : Bool) (v n : ℕ) → cond t (Value v) NoDigits ≡ Value n → (t ≡ true) × (v ≡ n)
+pub value-of : (t : Bool) (v n : ℕ) → cond t (Value v) NoDigits ≡ Value n → (t ≡ true) × (v ≡ n)
 value-of true v n e = (refl, cc)
 value-of false v n e = let z : _≡_ {A = ℕ} 0 1 = cc in absurd (omega arith)
 
@@ -193,7 +193,7 @@ written-read d n h e =
     ap (λ (x : ℕ). digitsTo 6 x []) (sym (k .1)) ∙ whole d h (ltb-true 0 (length d) (and-left (ltb 0 (length d)) (noLeadingZero d) m)) (and-right (ltb 0 (length d)) (noLeadingZero d) m) g
 
 -- ---- the whole field
-blanks-split : (l : List ℕ) → l ≡ replicate (blanksOf l) 32 ++ drop (blanksOf l) l
+pub blanks-split : (l : List ℕ) → l ≡ replicate (blanksOf l) 32 ++ drop (blanksOf l) l
 unfolding blanksOf
 blanks-split [] = refl
 blanks-split (b ∷ l) = by (eqb b 32) refl (blanks-split l)
@@ -202,7 +202,7 @@ blanks-split (b ∷ l) = by (eqb b 32) refl (blanks-split l)
     by true e h = rw (add-one (blanksOf l), eqb-true b 32 e) (ap (λ (x : List ℕ). 32 ∷ x) h)
     by false e h = refl
 
-head-tail : (t : List ℕ) (b : ℕ) → 0 < b → getD t 0 0 ≡ b → t ≡ b ∷ drop 1 t
+pub head-tail : (t : List ℕ) (b : ℕ) → 0 < b → getD t 0 0 ≡ b → t ≡ b ∷ drop 1 t
 head-tail [] b h e = absurd (omega arith)
 head-tail (x ∷ t) b h e = ap (λ (y : ℕ). y ∷ t) e
 

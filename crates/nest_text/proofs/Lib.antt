@@ -3,6 +3,7 @@ pub mod RoundTrip
 pub mod ReadPrefix
 pub mod FieldLaws
 pub mod FieldBack
+pub mod Numerals
 pub mod LineBack
 pub mod NestBack
 pub mod NestLines

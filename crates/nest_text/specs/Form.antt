@@ -1,0 +1,37 @@
+-- The form of a text in document 01's words, "The sheet". proofs/Numerals.antt shows that the computed test (Fields.readOf) is exactly this.
+-- Assumes nothing.
+use mathlib.Core.Path.{_≡_}
+use mathlib.Core.List.{List, [], _∷_, _++_, map}
+use Prim.Native.Nat.{ℕ, _+_, _*_, _<_, _^_}
+use lib.IntN.{ℤ, pos, negℤ}
+use lib.ListN.{length, getD, replicate}
+use Rattle.nest_text.specs.Fields.{Bytes}
+
+-- ---- a number in columns
+
+-- each is one of 0 to 9
+abbrev pub EachDigit : List ℕ → Type 0
+EachDigit [] = Unit {0}
+EachDigit (d ∷ ds) = (d < 10) × EachDigit ds
+
+-- digits with no leading zero
+pub record Decimal (ds : List ℕ) : Type 0 where
+  pub some-digit : 0 < length ds
+  pub each-digit : EachDigit ds
+  pub no-leading-zero : getD ds 0 0 ≡ 0 → length ds ≡ 1
+
+-- the number that digits say: each times its power of ten
+unfoldable pub decimal : List ℕ → ℕ
+decimal [] = 0
+decimal (d ∷ ds) = d * 10 ^ length ds + decimal ds
+
+-- their bytes
+abbrev pub digitBytes : List ℕ → Bytes
+digitBytes ds = map (λ d. 48 + d) ds
+
+-- the bytes say the number
+pub data Numeral (bs : Bytes) : ℤ → Type 0 where
+  -- spaces, digits
+  digits-alone : (k : ℕ) (ds : List ℕ) → Decimal ds → bs ≡ replicate k 32 ++ digitBytes ds → Numeral bs (pos (decimal ds))
+  -- spaces, a minus, digits; no minus zero
+  minus-digits : (k : ℕ) (ds : List ℕ) → Decimal ds → 0 < decimal ds → bs ≡ replicate k 32 ++ (45 ∷ digitBytes ds) → Numeral bs (negℤ (pos (decimal ds)))
