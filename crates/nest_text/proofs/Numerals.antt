@@ -3,22 +3,23 @@
 use mathlib.Core.Path.{_≡_, refl, sym, ap, ap₂, subst, _∙_}
 use mathlib.Core.Bool.{Bool, true, false, _&&_, cond}
 use mathlib.Core.Logic.{_↔_}
-use mathlib.Core.List.{List, [], _∷_, _++_, map}
+use mathlib.Core.List.{List, [], _∷_, _++_}
 use Prim.Native.Nat.{ℕ, zero, suc, _+_, _*_, _-_, _≤_, _<_, _^_}
-use native.Mathlib.Nat.{add-mul, mul-assoc, pow-succ', pow-le-pow-right, mul-le-mul-right, suc-mul}
+use native.Mathlib.Nat.{add-mul, mul-assoc, pow-succ', pow-le-pow-right, mul-le-mul-right}
+use native.Mathlib.Numerals.{add-one}
 use native.Mathlib.Omega.{arith}
-use borrow.Author.Tests.{eq-eqb, ne-eqb, eqb-true, eqb-false, lt-ltb, ltb-true, le-leb, leb-true}
+use borrow.Author.Tests.{eq-eqb, ne-eqb, eqb-true, lt-ltb, ltb-true, le-leb, leb-true}
 use lib.Dec.{eqb, leb, ltb}
 use lib.IntN.{ℤ, pos, negsuc, negℤ}
-use lib.ListN.{length, getD, drop, replicate, length-append, length-replicate, length-map, List·getD-map}
+use lib.ListN.{length, getD, drop, replicate, length-append, length-replicate, length-map}
 use Rattle.integers.specs.Lists.{and-true, split}
 use Rattle.nest_text.specs.declared.fields.Field.the-variants.{Number, Malformed}
 use Rattle.nest_text.specs.declared.fields.Run.{Run}
 use Rattle.nest_text.specs.declared.fields.Run.the-variants.{Value, NoDigits}
-use Rattle.nest_text.specs.Fields.{Bytes, blanksOf, isDigit, allDigits, valueOf, noLeadingZero, digitsOf, plain, negative, signedOf, readOf, fieldOf}
+use Rattle.nest_text.specs.Fields.{Bytes, blanksOf, isDigit, allDigits, valueOf, noLeadingZero, digitsOf, plain, negative, signedOf, readOf, digitsTo, textOf, fieldOf}
 use Rattle.nest_text.specs.Form.{EachDigit, Decimal, decimal, digitBytes, Numeral, digits-alone, minus-digits}
 use Rattle.nest_text.specs.Stored.{InColumns}
-use Rattle.nest_text.proofs.FieldBack.{digit-is, value-of, spaced, blanks-split, head-tail, read-written, written-again}
+use Rattle.nest_text.proofs.FieldBack.{digit-is, value-of, spaced, blanks-split, head-tail, read-written, written-read}
 
 -- ---- digits and their bytes
 
@@ -188,26 +189,43 @@ minus-columns : (n : ℕ) → 0 < n → n < 100000 → InColumns (negℤ (pos n)
 minus-columns zero h l = absurd (omega arith)
 minus-columns (suc n) h l = ap (λ b. b && true) (le-leb n 99998 (omega arith))
 
--- six bytes say a number from -99999 to 999999
-six-columns : (l : Bytes) (z : ℤ) → length l ≡ 6 → Numeral l z → InColumns z
+-- the text of a number with a minus
+minus-text : (n : ℕ) → 0 < n → textOf (negℤ (pos n)) ≡ 45 ∷ digitsTo 6 n []
+unfolding textOf
+minus-text zero h = absurd (omega arith)
+minus-text (suc n) h = ap (λ k. 45 ∷ digitsTo 6 k []) (add-one n)
+
+-- the places of k spaces and a text
+places : {l : Bytes} (k : ℕ) (t : Bytes) → length l ≡ 6 → l ≡ replicate k 32 ++ t → k + length t ≡ 6
+places k t h e = ap (λ n. n + length t) (sym (length-replicate k 32)) ∙ sym (length-append (replicate k 32) t) ∙ sym (ap length e) ∙ h
+
+-- they are the field of a number with that text
+columns-of : {l : Bytes} (k : ℕ) (t : Bytes) (z : ℤ) → length l ≡ 6 → l ≡ replicate k 32 ++ t → textOf z ≡ t → l ≡ fieldOf z
+unfolding fieldOf
+columns-of k t z h e q =
+    let r : k ≡ 6 - length t = omega (arith, places k t h e) in
+    e ∙ ap₂ (λ (n : ℕ) (x : Bytes). replicate n 32 ++ x) (r ∙ ap (λ (x : Bytes). 6 - length x) (sym q)) (sym q)
+
+-- six bytes that say a number: it is from -99999 to 999999, and they are its field
+six-columns : (l : Bytes) (z : ℤ) → length l ≡ 6 → Numeral l z → InColumns z × (l ≡ fieldOf z)
 six-columns l z h (digits-alone k ds d e) =
-    let n = sym (ap length e) ∙ h in
-    let w = length-append (replicate k 32) (digitBytes ds) in
-    let f = few-digits ds 6 d (omega (arith, n, w, length-map ds (λ d. 48 + d))) in
-    le-leb (decimal ds) 999999 (omega arith)
-six-columns l z h (minus-digits k ds d p e) =
-    let n = sym (ap length e) ∙ h in
-    let w = length-append (replicate k 32) (45 ∷ digitBytes ds) in
-    let f = few-digits ds 5 d (omega (arith, n, w, length-map ds (λ d. 48 + d))) in
-    minus-columns (decimal ds) p (omega arith)
+    let p = places k (digitBytes ds) h e in
+    let f = few-digits ds 6 d (omega (arith, length-map ds (λ d. 48 + d))) in (
+      le-leb (decimal ds) 999999 (omega arith),
+      columns-of k (digitBytes ds) (pos (decimal ds)) h e (unfold textOf in written-read (digitBytes ds) (decimal ds) (omega arith) (digits-read ds d)),
+    )
+six-columns l z h (minus-digits k ds d some e) =
+    let p = places k (45 ∷ digitBytes ds) h e in
+    let f = few-digits ds 5 d (omega (arith, length-map ds (λ d. 48 + d))) in (
+      minus-columns (decimal ds) some (omega arith),
+      columns-of k (45 ∷ digitBytes ds) (negℤ (pos (decimal ds))) h e
+          (minus-text (decimal ds) some ∙ ap (λ (x : Bytes). 45 ∷ x) (written-read (digitBytes ds) (decimal ds) (omega arith) (digits-read ds d))),
+    )
 
 -- six bytes are read as a number exactly if it is from -99999 to 999999 and they are its field
 pub field-iff : (l : Bytes) (z : ℤ) → length l ≡ 6 → (readOf l ≡ Number z) ↔ (InColumns z × (l ≡ fieldOf z))
-field-iff l z h = (
-  λ e. (six-columns l z h (read-words l z e), sym (written-again l z h e)),
-  λ w. ap readOf (w .1) ∙ read-written z (w .0),
-)
+field-iff l z h = (λ e. six-columns l z h (read-words l z e), λ w. ap readOf (w .1) ∙ read-written z (w .0))
 
 -- so in the document's words: the field of a number is the six bytes that say it
 pub field-words : (l : Bytes) (z : ℤ) → length l ≡ 6 → Numeral l z ↔ (InColumns z × (l ≡ fieldOf z))
-field-words l z h = (λ w. field-iff l z h .0 (words-read l z w), λ w. read-words l z (field-iff l z h .1 w))
+field-words l z h = (six-columns l z h, λ w. read-words l z (field-iff l z h .1 w))

@@ -19,26 +19,16 @@ use Rattle.nest.proofs.FirstMet.{passed}
 use Rattle.nest_text.specs.Fields.{Bytes, fieldOf}
 use Rattle.nest_text.specs.Text.{line, linesOf, textOf, isLine, numbersOf, behind, areLines, lineNumbers, headerWidth, widths, headed, nestFrom, headerOf, widthsOf, bodyOf, malformedUnless, readRefusal, readNest}
 use Rattle.nest_text.specs.Stored.{InColumns}
+use Rattle.nest_text.specs.Form.{AllInColumns, LinesInColumns}
 use Rattle.nest_text.proofs.WriteLaws.{field-length}
 use Rattle.nest.proofs.Spans.{Spans, spans, HeaderSpans, header-spans}
 use Rattle.nest.proofs.Refused.{accepted, none-of}
 use Rattle.nest_text.proofs.TextLength.{shapeLine, shape-columns, limits-columns, time-columns, dependence-columns, boundary-columns, weight-columns}
-use Rattle.nest_text.proofs.LineBack.{AllInColumns, LinesInColumns, LineRead, line-read, lines-read, line-again, lines-again, lines-widths, numbers-length}
+use Rattle.nest_text.proofs.LineBack.{LineRead, all-tab, line-read, lines-read, line-again, lines-again, lines-widths, numbers-length}
 use Rattle.nest_text.proofs.NestBack.{same-holds, cleared-same}
 use Rattle.nest_text.proofs.NestLines.{Lines, pair, bodyLines, nest-again, body-widths, triple-back, Parts, parts, made, made-is, made-depth, made-count, made-cube, made-lines, made-clear}
 
 -- ---- every number of every line has room in six columns
-
--- numbers behind numbers
-all-append : (xs ys : List ℤ) → AllInColumns xs → AllInColumns ys → AllInColumns (xs ++ ys)
-all-append [] ys h k = k
-all-append (x ∷ xs) ys h k = (h .0, all-append xs ys (h .1) k)
-
--- a table of numbers
-all-tab : (g : ℕ → ℤ) (k : ℕ) → ((i : ℕ) → i < k → InColumns (g i)) → AllInColumns (tab g k)
-unfolding tab
-all-tab g zero h = tt
-all-tab g (suc k) h = all-append (tab g k) (g k ∷ []) (all-tab g k (λ i l. h i (omega arith))) (h k (omega arith), tt)
 
 -- lines behind lines
 lines-append : (xs ys : Lines) → LinesInColumns xs → LinesInColumns ys → LinesInColumns (xs ++ ys)
@@ -250,7 +240,7 @@ body-again bs h = subst (λ z. (textOf z ≡ bs) × (refusal z ≡ 0) × (cleare
 
     text : textOf x ≡ bs
     text = unfold textOf flatMap in
-        ap (flatMap line) lines ∙ ap (λ l. line (numbersOf headerWidth bs) ++ l) (lines-again (widths n m) (behind headerWidth bs) (h .others)) ∙ line-again headerWidth bs (h .first)
+        ap (flatMap line) lines ∙ ap (λ l. line (numbersOf headerWidth bs) ++ l) (sym (lines-again (widths n m) (behind headerWidth bs) (h .others) .1)) ∙ sym (line-again headerWidth bs (h .first) .1)
 
     accepted : refusal x ≡ 0
     accepted = unfold refusal in
