@@ -1,6 +1,7 @@
--- The theorems about texts (RoundTrip, ReadPrefix), and the laws that the functions' proofs share.
+-- The theorems about texts (Numerals, LineBack, RoundTrip, SaysLaws, ReadPrefix), and the laws that the functions' proofs share.
 pub mod RoundTrip
 pub mod ReadPrefix
+pub mod SaysLaws
 pub mod FieldLaws
 pub mod FieldBack
 pub mod Numerals
