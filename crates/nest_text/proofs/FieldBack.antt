@@ -1,20 +1,19 @@
--- A field that was written is read back, and one that was read is written again as it stood.
-use mathlib.Core.Path.{_≡_, refl, sym, ap, subst, _∙_}
+-- A field that was written is read back, and digits that were read are written again as they stood; Numerals.antt has the whole field.
+use mathlib.Core.Path.{_≡_, refl, sym, ap, _∙_}
 use mathlib.Core.Bool.{Bool, true, false, _&&_, cond}
 use mathlib.Core.List.{List, [], _∷_, _++_, append-nil}
 use Prim.Native.Nat.{ℕ, zero, suc, _+_, _*_, _-_, _/_, _%_, _≤_, _<_, _^_}
 use native.Mathlib.Numerals.{add-one}
 use native.Mathlib.Omega.{arith}
-use borrow.Author.Tests.{eq-eqb, ne-eqb, le-ltb, lt-ltb, leb-true, lt-leb, le-leb, ltb-true, ltb-false, eqb-true, eqb-false}
-use lib.Dec.{T, eqb, leb, ltb}
-use lib.IntN.{ℤ, pos, negsuc, negℤ}
-use lib.Signed.{leZ}
-use lib.ListN.{length, getD, drop, replicate, length-replicate, length-append, length-drop}
+use borrow.Author.Tests.{ne-eqb, le-ltb, lt-ltb, leb-true, le-leb, ltb-true, ltb-false, eqb-true, eqb-false}
+use lib.Dec.{eqb, leb, ltb}
+use lib.IntN.{ℤ, pos, negsuc}
+use lib.ListN.{length, getD, drop, replicate, length-replicate}
 use lib.Seq.{drop-at}
-use Rattle.nest_text.specs.declared.fields.Field.the-variants.{Number, Malformed}
-use Rattle.nest_text.specs.declared.fields.Run.{Run}
+use Rattle.integers.specs.Lists.{and-true}
+use Rattle.nest_text.specs.declared.fields.Field.the-variants.{Number}
 use Rattle.nest_text.specs.declared.fields.Run.the-variants.{Value, NoDigits}
-use Rattle.nest_text.specs.Fields.{blanksOf, allDigits, valueOf, isDigit, digitsOf, signedOf, readOf, digitsTo, textOf, fieldOf, within, noLeadingZero, plain, negative}
+use Rattle.nest_text.specs.Fields.{blanksOf, allDigits, valueOf, isDigit, digitsOf, signedOf, readOf, digitsTo, textOf, fieldOf, within, noLeadingZero}
 use Rattle.nest_text.proofs.FieldLaws.{tenth, within-neg, within-pos, two-digits, empty}
 use lib.Arith.{lt-of-le-ne}
 
@@ -38,7 +37,7 @@ value-written (suc f) n acc h l = by (ltb n 10) refl (λ p q. value-written f (n
         let m = two-digits n (suc f) (ltb-false n 10 e) h in
         go (tenth n f (rw (add-one f) h)) (omega arith) ∙ ap (λ (m : ℕ). valueOf m acc) (digit-next n)
 
-digit-is : (m : ℕ) → m < 10 → isDigit (48 + m) ≡ true
+pub digit-is : (m : ℕ) → m < 10 → isDigit (48 + m) ≡ true
 digit-is m h = simp (le-leb 48 (48 + m) (omega arith), le-leb (48 + m) 57 (omega arith))
 
 all-written : (f n : ℕ) (acc : List ℕ) → allDigits acc ≡ true → allDigits (digitsTo f n acc) ≡ true
@@ -85,7 +84,7 @@ blanks-before zero [] h = refl
 blanks-before zero (b ∷ t) h = rw (ne-eqb b 32 h) refl
 blanks-before (suc k) t h = rw (blanks-before k t h) (omega arith)
 
-spaced : (k : ℕ) (t : List ℕ) → (getD t 0 0 ≡ 32 → ⊥) → readOf (replicate k 32 ++ t) ≡ signedOf t
+pub spaced : (k : ℕ) (t : List ℕ) → (getD t 0 0 ≡ 32 → ⊥) → readOf (replicate k 32 ++ t) ≡ signedOf t
 unfolding readOf
 spaced k t h = rw (blanks-before k t h, drop-at (replicate k 32) t k (length-replicate k 32)) refl
 
@@ -119,14 +118,6 @@ unfolding fieldOf
 read-written z h = spaced (6 - length (textOf z)) (textOf z) (text-head z h) ∙ text-back z h
 
 -- ---- digits that were read
-and-left : (a b : Bool) → (a && b) ≡ true → a ≡ true
-and-left true b h = refl
-and-left false b h = h
-
-and-right : (a b : Bool) → (a && b) ≡ true → b ≡ true
-and-right true b h = h
-and-right false b h = absurd (subst T (sym h) tt)
-
 step : (f n : ℕ) (acc : List ℕ) → 10 ≤ n → digitsTo (suc f) n acc ≡ digitsTo f (n / 10) ((48 + n % 10) ∷ acc)
 unfolding digitsTo
 step f n acc h = rw (le-ltb n 10 h) refl
@@ -136,13 +127,14 @@ written-after : (d : List ℕ) (f a : ℕ) (acc : List ℕ) → 1 ≤ a → allD
 unfolding valueOf allDigits
 written-after [] f a acc h g = ap (λ (n : ℕ). digitsTo n a acc) (omega arith)
 written-after (b ∷ d) f a acc h g =
-    let lo = leb-true 48 b (and-left (leb 48 b) (leb b 57) (and-left (isDigit b) (allDigits d) g)) in
-    let hi = leb-true b 57 (and-right (leb 48 b) (leb b 57) (and-left (isDigit b) (allDigits d) g)) in
+    let both = and-true (isDigit b) (allDigits d) g in
+    let lo = leb-true 48 b (and-true (leb 48 b) (leb b 57) (both .0) .0) in
+    let hi = leb-true b 57 (and-true (leb 48 b) (leb b 57) (both .0) .1) in
     let n = a * 10 + (b - 48) in
     let e : f + suc (length d) ≡ suc f + length d = omega arith in
     let q : n / 10 ≡ a = omega arith in
     let r : 48 + n % 10 ≡ b = omega arith in
-    ap (λ (m : ℕ). digitsTo m (valueOf n d) acc) e ∙ (written-after d (suc f) n acc (omega arith) (and-right (isDigit b) (allDigits d) g) ∙ step f n (d ++ acc) (omega arith) ∙ rw (q, r) refl)
+    ap (λ (m : ℕ). digitsTo m (valueOf n d) acc) e ∙ (written-after d (suc f) n acc (omega arith) (both .1) ∙ step f n (d ++ acc) (omega arith) ∙ rw (q, r) refl)
 
 one-digit : (f a : ℕ) (acc : List ℕ) → a < 10 → 1 ≤ f → digitsTo f a acc ≡ (48 + a) ∷ acc
 unfolding digitsTo
@@ -150,7 +142,7 @@ one-digit zero a acc h l = absurd (omega arith)
 one-digit (suc f) a acc h l = rw (lt-ltb a 10 h) refl
 
 -- what an answer says of the digits
-value-of : (t : Bool) (v n : ℕ) → cond t (Value v) NoDigits ≡ Value n → (t ≡ true) × (v ≡ n)
+pub value-of : (t : Bool) (v n : ℕ) → cond t (Value v) NoDigits ≡ Value n → (t ≡ true) × (v ≡ n)
 value-of true v n e = (refl, cc)
 value-of false v n e = let z : _≡_ {A = ℕ} 0 1 = cc in absurd (omega arith)
 
@@ -163,11 +155,14 @@ unfolding valueOf allDigits
 whole [] h s l g = absurd (omega arith)
 whole (b ∷ d) h s l g = by (eqb b 48) refl
   where
+    both : (isDigit b ≡ true) × (allDigits d ≡ true)
+    both = and-true (isDigit b) (allDigits d) g
+
     lo : 48 ≤ b
-    lo = leb-true 48 b (and-left (leb 48 b) (leb b 57) (and-left (isDigit b) (allDigits d) g))
+    lo = leb-true 48 b (and-true (leb 48 b) (leb b 57) (both .0) .0)
 
     hi : b ≤ 57
-    hi = leb-true b 57 (and-right (leb 48 b) (leb b 57) (and-left (isDigit b) (allDigits d) g))
+    hi = leb-true b 57 (and-true (leb 48 b) (leb b 57) (both .0) .1)
 
     by : (t : Bool) → eqb b 48 ≡ t → digitsTo 6 (valueOf (0 * 10 + (b - 48)) d) [] ≡ b ∷ d
     by true e =
@@ -182,18 +177,18 @@ whole (b ∷ d) h s l g = by (eqb b 48) refl
         let pos1 : 1 ≤ a = omega (arith, lt-of-le-ne lo (λ q. p (sym q)), lo) in
         let f : 6 ≡ 6 - length d + length d = omega arith in
         let back : 48 + a ≡ b = omega (arith, lo) in
-        ap (λ (x : ℕ). digitsTo x (valueOf a d) []) f ∙ (written-after d (6 - length d) a [] pos1 (and-right (isDigit b) (allDigits d) g) ∙ (one-digit (6 - length d) a (d ++ []) (omega (arith, hi)) (omega arith) ∙ rw (back, append-nil d) refl))
+        ap (λ (x : ℕ). digitsTo x (valueOf a d) []) f ∙ (written-after d (6 - length d) a [] pos1 (both .1) ∙ (one-digit (6 - length d) a (d ++ []) (omega (arith, hi)) (omega arith) ∙ rw (back, append-nil d) refl))
 
 pub written-read : (d : List ℕ) (n : ℕ) → length d ≤ 6 → digitsOf d ≡ Value n → digitsTo 6 n [] ≡ d
 unfolding digitsOf
 written-read d n h e =
     let k = value-of ((ltb 0 (length d) && noLeadingZero d) && allDigits d) (valueOf 0 d) n e in
-    let g = and-right (ltb 0 (length d) && noLeadingZero d) (allDigits d) (k .0) in
-    let m = and-left (ltb 0 (length d) && noLeadingZero d) (allDigits d) (k .0) in
-    ap (λ (x : ℕ). digitsTo 6 x []) (sym (k .1)) ∙ whole d h (ltb-true 0 (length d) (and-left (ltb 0 (length d)) (noLeadingZero d) m)) (and-right (ltb 0 (length d)) (noLeadingZero d) m) g
+    let a = and-true (ltb 0 (length d) && noLeadingZero d) (allDigits d) (k .0) in
+    let m = and-true (ltb 0 (length d)) (noLeadingZero d) (a .0) in
+    ap (λ (x : ℕ). digitsTo 6 x []) (sym (k .1)) ∙ whole d h (ltb-true 0 (length d) (m .0)) (m .1) (a .1)
 
--- ---- the whole field
-blanks-split : (l : List ℕ) → l ≡ replicate (blanksOf l) 32 ++ drop (blanksOf l) l
+-- ---- spaces before a field that was read
+pub blanks-split : (l : List ℕ) → l ≡ replicate (blanksOf l) 32 ++ drop (blanksOf l) l
 unfolding blanksOf
 blanks-split [] = refl
 blanks-split (b ∷ l) = by (eqb b 32) refl (blanks-split l)
@@ -202,40 +197,6 @@ blanks-split (b ∷ l) = by (eqb b 32) refl (blanks-split l)
     by true e h = rw (add-one (blanksOf l), eqb-true b 32 e) (ap (λ (x : List ℕ). 32 ∷ x) h)
     by false e h = refl
 
-head-tail : (t : List ℕ) (b : ℕ) → 0 < b → getD t 0 0 ≡ b → t ≡ b ∷ drop 1 t
+pub head-tail : (t : List ℕ) (b : ℕ) → 0 < b → getD t 0 0 ≡ b → t ≡ b ∷ drop 1 t
 head-tail [] b h e = absurd (omega arith)
 head-tail (x ∷ t) b h e = ap (λ (y : ℕ). y ∷ t) e
-
--- the text before which an answer was made, by the answer's kind
-plain-text : (t : List ℕ) (r : Run) (z : ℤ) → length t ≤ 6 → digitsOf t ≡ r → plain r ≡ Number z → textOf z ≡ t
-unfolding textOf
-plain-text t (Value n) z h d e = let q : z ≡ pos n = cc in rw q (written-read t n h d)
-plain-text t NoDigits z h d e = let q : _≡_ {A = ℕ} 0 1 = cc in absurd (omega arith)
-
-minus-text : (t : List ℕ) (r : Run) (z : ℤ) → length t ≤ 6 → getD t 0 0 ≡ 45 → digitsOf (drop 1 t) ≡ r → negative r ≡ Number z → textOf z ≡ t
-unfolding textOf
-minus-text t (Value zero) z h m d e = let q : _≡_ {A = ℕ} 0 1 = cc in absurd (omega arith)
-minus-text t (Value (suc n)) z h m d e =
-    let g : Number (negsuc n) ≡ Number z = simp (ne-eqb (suc n) 0 (λ p. absurd (omega arith))) at e in
-    let q : z ≡ negsuc n = cc in
-    rw (q, add-one n, written-read (drop 1 t) (suc n) (rw length-drop (omega arith)) d) (sym (head-tail t 45 (omega arith) m))
-minus-text t NoDigits z h m d e = let q : _≡_ {A = ℕ} 0 1 = cc in absurd (omega arith)
-
-text-of : (t : List ℕ) (z : ℤ) → length t ≤ 6 → signedOf t ≡ Number z → textOf z ≡ t
-unfolding signedOf
-text-of t z h e = by (eqb (getD t 0 0) 45) refl e
-  where
-    by : (b : Bool) → eqb (getD t 0 0) 45 ≡ b → cond b (negative (digitsOf (drop 1 t))) (plain (digitsOf t)) ≡ Number z → textOf z ≡ t
-    by true m g = minus-text t (digitsOf (drop 1 t)) z h (eqb-true (getD t 0 0) 45 m) refl g
-    by false m g = plain-text t (digitsOf t) z h refl g
-
-pub written-again : (l : List ℕ) (z : ℤ) → length l ≡ 6 → readOf l ≡ Number z → fieldOf z ≡ l
-unfolding readOf fieldOf
-written-again l z h e =
-    let k = blanksOf l in
-    let t = drop k l in
-    let s = blanks-split l in
-    let n : k + length t ≡ 6 = sym (ap length s ∙ (length-append (replicate k 32) t ∙ ap (λ (m : ℕ). m + length t) (length-replicate k 32))) ∙ h in
-    let q = text-of t z (omega arith) e in
-    let r : 6 - length t ≡ k = omega arith in
-    rw (q, r) (sym s)

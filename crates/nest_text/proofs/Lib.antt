@@ -1,9 +1,11 @@
--- The theorems about texts (RoundTrip, ReadPrefix), and the laws that the functions' proofs share.
+-- The theorems about texts (Numerals, LineBack, RoundTrip, SaysLaws, ReadPrefix), and the laws that the functions' proofs share.
 pub mod RoundTrip
 pub mod Answers
 pub mod ReadPrefix
+pub mod SaysLaws
 pub mod FieldLaws
 pub mod FieldBack
+pub mod Numerals
 pub mod LineBack
 pub mod NestLines
 pub mod Columns

@@ -2,6 +2,7 @@
 -- Assumes nothing.
 use mathlib.Core.Path.{_≡_, refl, sym, ap, ap₂, subst, _∙_}
 use mathlib.Core.Bool.{Bool, true, false, not, _&&_}
+use mathlib.Core.Logic.{_↔_}
 use mathlib.Core.List.{List, [], _∷_, _++_, map, flatMap, append-assoc}
 use Prim.Native.Nat.{ℕ, zero, suc, _+_, _*_, _-_, _≤_, _<_}
 use native.Mathlib.Nat.{le-of-suc-le-suc, not-suc-le-zero}
@@ -11,25 +12,30 @@ use borrow.Author.Tests.{eq-eqb, eqb-true, not-true, ltb-true, ltb-false}
 use lib.Dec.{eqb, ltb}
 use lib.IntN.{ℤ, pos}
 use lib.ListN.{length, getD, take, drop, length-append, length-drop, take-append-drop, List·getD-eq-default}
-use lib.Seq.{take-at, drop-at, getD-at, drop-append-add, drop-cons, take-add, length-take-le, ext-getD}
-use Rattle.integers.specs.Lists.{any, tab, clash, split, and-true, length-tab, getD-tab, any-tab-some, any-tab-each, any-tab-none, tab-list, flatMap-append, flatMap-one}
+use lib.Seq.{take-at, drop-at, getD-at, drop-append-add, drop-cons, take-add, length-take-le}
+use Rattle.integers.specs.Lists.{any, tab, clash, split, and-true, length-tab, any-tab-each, any-tab-none, tab-list, flatMap-append, flatMap-one}
 use Rattle.nest_text.specs.declared.fields.Field.{Field}
 use Rattle.nest_text.specs.declared.fields.Field.the-variants.{Number, Malformed}
 use Rattle.nest_text.specs.Fields.{Bytes, newline, fieldOf, readOf}
 use Rattle.nest_text.specs.Text.{line, isMalformed, numberOf, fieldAt, isLine, numbersOf, behind, areLines, lineNumbers}
 use Rattle.nest_text.specs.Stored.{InColumns}
-use Rattle.nest_text.proofs.FieldBack.{read-written, written-again}
+use Rattle.nest_text.specs.Form.{AllInColumns, LinesInColumns, Begins, Consists}
+use Rattle.nest_text.proofs.FieldBack.{read-written}
+use Rattle.nest_text.proofs.Numerals.{field-iff}
 use Rattle.nest_text.proofs.WriteLaws.{field-length}
 
 -- ---- numbers that six columns hold
-abbrev pub AllInColumns : List ℤ → Type 0
-AllInColumns [] = Unit {0}
-AllInColumns (z ∷ zs) = InColumns z × AllInColumns zs
 
--- the same of each line
-abbrev pub LinesInColumns : List (List ℤ) → Type 0
-LinesInColumns [] = Unit {0}
-LinesInColumns (l ∷ ls) = AllInColumns l × LinesInColumns ls
+-- numbers behind numbers
+all-append : (xs ys : List ℤ) → AllInColumns xs → AllInColumns ys → AllInColumns (xs ++ ys)
+all-append [] ys h k = k
+all-append (x ∷ xs) ys h k = (h .0, all-append xs ys (h .1) k)
+
+-- a table of numbers
+pub all-tab : (g : ℕ → ℤ) (k : ℕ) → ((i : ℕ) → i < k → InColumns (g i)) → AllInColumns (tab g k)
+unfolding tab
+all-tab g zero h = tt
+all-tab g (suc k) h = all-append (tab g k) (g k ∷ []) (all-tab g k (λ i l. h i (omega arith))) (h k (omega arith), tt)
 
 -- ---- a line that was written, with bytes behind it
 fields-cons : (z : ℤ) (zs : List ℤ) (rest : Bytes) → flatMap fieldOf (z ∷ zs) ++ rest ≡ fieldOf z ++ (flatMap fieldOf zs ++ rest)
@@ -95,11 +101,12 @@ known : (f : Field) → isMalformed f ≡ false → f ≡ Number (numberOf f)
 known (Number z) e = refl
 known Malformed e = clash refl e
 
--- a field that was read is written as it stood
-field-again : (bs : Bytes) (i : ℕ) → 6 * i + 6 ≤ length bs → isMalformed (fieldAt bs i) ≡ false → fieldOf (numberOf (fieldAt bs i)) ≡ take 6 (drop (6 * i) bs)
+-- a field that was read has its number in columns
+field-again : (bs : Bytes) (i : ℕ) → 6 * i + 6 ≤ length bs → isMalformed (fieldAt bs i) ≡ false
+    → InColumns (numberOf (fieldAt bs i)) × (take 6 (drop (6 * i) bs) ≡ fieldOf (numberOf (fieldAt bs i)))
 field-again bs i h e =
     let room : 6 ≤ length (drop (6 * i) bs) = subst (λ n. 6 ≤ n) (sym (length-drop (6 * i) bs)) (omega arith) in
-    written-again (take 6 (drop (6 * i) bs)) (numberOf (fieldAt bs i)) (length-take-le 6 (drop (6 * i) bs) room) (known (fieldAt bs i) e)
+    field-iff (take 6 (drop (6 * i) bs)) (numberOf (fieldAt bs i)) (length-take-le 6 (drop (6 * i) bs) room) .0 (known (fieldAt bs i) e)
 
 -- k fields that were read
 fields-again : (bs : Bytes) (k : ℕ) → 6 * k ≤ length bs → ((i : ℕ) → i < k → isMalformed (fieldAt bs i) ≡ false) → flatMap fieldOf (tab (λ i. numberOf (fieldAt bs i)) k) ≡ take (6 * k) bs
@@ -115,25 +122,27 @@ fields-again bs (suc k) h e = step (fields-again bs k (omega arith) (λ i l. e i
     step : flatMap fieldOf front ≡ take (6 * k) bs → flatMap fieldOf (tab (λ i. numberOf (fieldAt bs i)) (suc k)) ≡ take (6 * suc k) bs
     step ih = unfold tab in
         flatMap-append fieldOf front (numberOf (fieldAt bs k) ∷ [])
-        ∙ ap₂ (λ (a b : Bytes). a ++ b) ih (flatMap-one fieldOf (numberOf (fieldAt bs k)) ∙ field-again bs k (omega arith) (e k (omega arith)))
+        ∙ ap₂ (λ (a b : Bytes). a ++ b) ih (flatMap-one fieldOf (numberOf (fieldAt bs k)) ∙ sym (field-again bs k (omega arith) (e k (omega arith)) .1))
         ∙ sym (take-add (6 * k) 6 bs) ∙ ap (λ n. take n bs) six
 
 -- where a byte that is not 0 is read, there is a place for it
 reaches : (bs : Bytes) (n b : ℕ) → 0 < b → getD bs n 0 ≡ b → n < length bs
 reaches bs n b h e = split (ltb n (length bs)) (λ t. ltb-true n (length bs) t) (λ f. let d = List·getD-eq-default bs 0 {n = n} (ltb-false n (length bs) f) in absurd (omega arith))
 
--- a line that was read, with what stands behind it
-pub line-again : (k : ℕ) (bs : Bytes) → isLine k bs ≡ true → line (numbersOf k bs) ++ behind k bs ≡ bs
+-- a line that was read begins the bytes
+pub line-again : (k : ℕ) (bs : Bytes) → isLine k bs ≡ true → Begins bs (numbersOf k bs) (behind k bs)
 unfolding line isLine numbersOf
 line-again k bs h =
     let a = and-true (not (any isMalformed (tab (fieldAt bs) k))) (eqb (getD bs (6 * k) 0) newline) h in
-    let none = not-true (any isMalformed (tab (fieldAt bs) k)) (a .0) in
+    let each : (i : ℕ) → i < k → isMalformed (fieldAt bs i) ≡ false = λ i l. any-tab-each isMalformed (fieldAt bs) k i (not-true (any isMalformed (tab (fieldAt bs) k)) (a .0)) l in
     let ten : getD bs (6 * k) 0 ≡ newline = eqb-true (getD bs (6 * k) 0) newline (a .1) in
     let room : 6 * k < length bs = reaches bs (6 * k) newline (omega arith) ten in
-    let f = fields-again bs k (omega arith) (λ i l. any-tab-each isMalformed (fieldAt bs) k i none l) in
-    let e : drop (6 * k + 1) bs ≡ drop (suc (6 * k)) bs = ap (λ n. drop n bs) (add-one (6 * k)) in
-    ap₂ (λ (x y : Bytes). (x ++ (newline ∷ [])) ++ y) f e ∙ append-assoc (take (6 * k) bs) (newline ∷ []) (drop (suc (6 * k)) bs)
-    ∙ ap (λ (b : ℕ). take (6 * k) bs ++ (b ∷ drop (suc (6 * k)) bs)) (sym ten) ∙ ap (λ l. take (6 * k) bs ++ l) (sym (drop-cons bs (6 * k) 0 room)) ∙ take-append-drop (6 * k) bs
+    let f = fields-again bs k (omega arith) each in
+    let e : drop (6 * k + 1) bs ≡ drop (suc (6 * k)) bs = ap (λ n. drop n bs) (add-one (6 * k)) in (
+      all-tab (λ i. numberOf (fieldAt bs i)) k (λ i l. field-again bs i (omega arith) (each i l) .0),
+      sym (ap₂ (λ (x y : Bytes). (x ++ (newline ∷ [])) ++ y) f e ∙ append-assoc (take (6 * k) bs) (newline ∷ []) (drop (suc (6 * k)) bs)
+          ∙ ap (λ (b : ℕ). take (6 * k) bs ++ (b ∷ drop (suc (6 * k)) bs)) (sym ten) ∙ ap (λ l. take (6 * k) bs ++ l) (sym (drop-cons bs (6 * k) 0 room)) ∙ take-append-drop (6 * k) bs),
+    )
 
 -- a line of k fields has k numbers
 pub numbers-length : (k : ℕ) (bs : Bytes) → length (numbersOf k bs) ≡ k
@@ -141,19 +150,23 @@ unfolding numbersOf
 numbers-length k bs = length-tab (λ i. numberOf (fieldAt bs i)) k
 
 -- no byte is left
-none-left : (bs : Bytes) → eqb (length bs) 0 ≡ true → [] ≡ bs
+none-left : (bs : Bytes) → eqb (length bs) 0 ≡ true → bs ≡ []
 none-left [] e = refl
 none-left (b ∷ bs) e = absurd (omega (arith, eqb-true (suc (length bs)) 0 e))
 
--- lines that were read
-pub lines-again : (ks : List ℕ) (bs : Bytes) → areLines ks bs ≡ true → flatMap line (lineNumbers ks bs) ≡ bs
+-- lines that were read are the bytes
+pub lines-again : (ks : List ℕ) (bs : Bytes) → areLines ks bs ≡ true → Consists bs (lineNumbers ks bs)
 unfolding areLines lineNumbers flatMap
-lines-again [] bs h = none-left bs h
+lines-again [] bs h = (tt, none-left bs h)
 lines-again (k ∷ ks) bs h = go (isLine k bs) refl h (lines-again ks (behind k bs))
   where
     go : (b : Bool) → isLine k bs ≡ b → _≡_ {A = Bool} (elim b as (λ _. Bool) [ true ↦ areLines ks (behind k bs) | false ↦ false ]) true
-        → (areLines ks (behind k bs) ≡ true → flatMap line (lineNumbers ks (behind k bs)) ≡ behind k bs) → line (numbersOf k bs) ++ flatMap line (lineNumbers ks (behind k bs)) ≡ bs
-    go true q h ih = ap (λ l. line (numbersOf k bs) ++ l) (ih h) ∙ line-again k bs q
+        → (areLines ks (behind k bs) ≡ true → Consists (behind k bs) (lineNumbers ks (behind k bs)))
+        → (AllInColumns (numbersOf k bs) × LinesInColumns (lineNumbers ks (behind k bs))) × (bs ≡ line (numbersOf k bs) ++ flatMap line (lineNumbers ks (behind k bs)))
+    go true q h ih =
+        let first = line-again k bs q in
+        let others = ih h in
+        ((first .0, others .0), first .1 ∙ ap (λ l. line (numbersOf k bs) ++ l) (others .1))
     go false q h ih = clash h refl
 
 -- each line has as many numbers as it has fields
@@ -161,3 +174,24 @@ pub lines-widths : (ks : List ℕ) (bs : Bytes) → map length (lineNumbers ks b
 unfolding lineNumbers
 lines-widths [] bs = refl
 lines-widths (k ∷ ks) bs = ap₂ (λ (a : ℕ) (l : List ℕ). a ∷ l) (numbers-length k bs) (lines-widths ks (behind k bs))
+
+-- ---- the tests in words
+
+-- the bytes begin with a line of k numbers in columns exactly if the test says so
+pub line-iff : (k : ℕ) (bs : Bytes) → (isLine k bs ≡ true) ↔ ((zs : List ℤ) × (rest : Bytes) × (length zs ≡ k) × Begins bs zs rest)
+line-iff k bs = (
+  λ h. (numbersOf k bs, behind k bs, numbers-length k bs, line-again k bs h),
+  λ w. ap₂ isLine (sym (w .2)) (w .3 .1) ∙ line-read (w .0) (w .1) (w .3 .0) .in-form,
+)
+
+-- and those numbers and the rest are the ones that are read
+pub begins-read : (bs : Bytes) (zs : List ℤ) (rest : Bytes) → Begins bs zs rest → LineRead zs rest bs
+begins-read bs zs rest w = subst (LineRead zs rest) (sym (w .1)) (line-read zs rest (w .0))
+
+-- the bytes are lines with these numbers of fields, in columns, and nothing else, exactly if the test says so
+pub lines-iff : (ks : List ℕ) (bs : Bytes) → (areLines ks bs ≡ true) ↔ ((ls : List (List ℤ)) × (map length ls ≡ ks) × Consists bs ls)
+lines-iff ks bs = (λ h. (lineNumbers ks bs, lines-widths ks bs, lines-again ks bs h), λ w. ap₂ areLines (sym (w .1)) (w .2 .1) ∙ lines-read (w .0) (w .2 .0) .0)
+
+-- and those numbers are the ones that are read
+pub consists-read : (bs : Bytes) (ls : List (List ℤ)) → Consists bs ls → lineNumbers (map length ls) bs ≡ ls
+consists-read bs ls w = ap (lineNumbers (map length ls)) (w .1) ∙ lines-read ls (w .0) .1

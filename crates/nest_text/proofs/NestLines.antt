@@ -214,17 +214,17 @@ module _ (n m : ℕ) (c : ℤ) (ls : Lines) (p : Parts n m ls) (few : n ≤ maxD
   }
 
   -- line 1 again
-  pub made-depth : made .depth ≡ pos n
+  made-depth : made .depth ≡ pos n
   unfolding made nestOf
   made-depth = ap pos loops
 
   -- its number of dependences
-  pub made-count : made .count ≡ pos m
+  made-count : made .count ≡ pos m
   unfolding made nestOf
   made-count = ap pos (how-many m n (p .deps) (p .deps-wide))
 
   -- its cube dimension
-  pub made-cube : made .cube ≡ c
+  made-cube : made .cube ≡ c
   unfolding made nestOf
   made-cube = refl
 

@@ -89,7 +89,7 @@ unfolding filled padded emptyNest flatMap
 filled-none n m c = rw (take-nil n, drop-nil (n + 1), take-nil m) refl
 
 -- the refusals of line 1 look at the shape alone
-same-shape : (s t : LoopNest) → s .depth ≡ t .depth → s .count ≡ t .count → s .cube ≡ t .cube → firstMet s headerOrder ≡ firstMet t headerOrder
+pub same-shape : (s t : LoopNest) → s .depth ≡ t .depth → s .count ≡ t .count → s .cube ≡ t .cube → firstMet s headerOrder ≡ firstMet t headerOrder
 unfolding firstMet holds
 same-shape s t p q r = λ i. firstMet (shaped s (p i) (q i) (r i)) headerOrder
 
@@ -150,12 +150,12 @@ module _ (bs : Bytes) where
   in-two = refusals-assoc (malformedUnless (isLine headerWidth bs)) (firstMet (headerOf bs) headerOrder) bodyRefusal
 
   -- ---- line 1
-  header-malformed : isLine headerWidth bs ≡ false → headerRefusal bs ≡ 1
+  pub header-malformed : isLine headerWidth bs ≡ false → headerRefusal bs ≡ 1
   unfolding headerRefusal orElse
   header-malformed e = rw e refl
 
   -- line 1 in form
-  header-checked : isLine headerWidth bs ≡ true → headerRefusal bs ≡ firstMet (headerOf bs) headerOrder
+  pub header-checked : isLine headerWidth bs ≡ true → headerRefusal bs ≡ firstMet (headerOf bs) headerOrder
   unfolding headerRefusal orElse
   header-checked e = rw e refl
 
@@ -169,13 +169,21 @@ module _ (bs : Bytes) where
   unfolding headerRead
   header-passed e = rw (headerRead, e) refl
 
+  -- where line 1 is refused, so is the text
+  pub header-answers : (headerRefusal bs ≡ 0 → ⊥) → readRefusal bs ≡ headerRefusal bs
+  header-answers h = in-two ∙ orElse-first (headerRefusal bs) bodyRefusal h
+
+  -- where the text is not refused, neither is line 1
+  pub header-zero : readRefusal bs ≡ 0 → headerRefusal bs ≡ 0
+  header-zero e = orElse-zero (headerRefusal bs) bodyRefusal (sym in-two ∙ e) .0
+
   -- ---- the whole
-  whole-refused : (r : ℕ) → readRefusal bs ≡ r → (r ≡ 0 → ⊥) → refusedAs r ≡ readingOf bs
+  pub whole-refused : (r : ℕ) → readRefusal bs ≡ r → (r ≡ 0 → ⊥) → refusedAs r ≡ readingOf bs
   unfolding readNest
   whole-refused r e h = rw (readNest, e, ne-eqb r 0 h) refl
 
   -- the text accepted
-  whole-passed : readRefusal bs ≡ 0 → _≡_ {A = Reading} (record { refusal = 0; nest = bodyOf bs }) (readingOf bs)
+  pub whole-passed : readRefusal bs ≡ 0 → _≡_ {A = Reading} (record { refusal = 0; nest = bodyOf bs }) (readingOf bs)
   unfolding readNest
   whole-passed e = rw (readNest, e) refl
 
@@ -208,12 +216,12 @@ module _ (bs : Bytes) where
   -- ---- the lines behind line 1, where it passed
   module _ (none : headerRefusal bs ≡ 0) where
     -- its form is kept
-    header-form : isLine headerWidth bs ≡ true
+    pub header-form : isLine headerWidth bs ≡ true
     unfolding headerRefusal
     header-form = form-kept (isLine headerWidth bs) (orElse-zero (malformedUnless (isLine headerWidth bs)) (firstMet (headerOf bs) headerOrder) none .0)
 
     -- its numbers pass
-    header-fits : firstMet (headerOf bs) headerOrder ≡ 0
+    pub header-fits : firstMet (headerOf bs) headerOrder ≡ 0
     header-fits = sym (header-checked header-form) ∙ none
 
     -- its shape is in span
@@ -238,7 +246,7 @@ module _ (bs : Bytes) where
     body-filled = sym (filled-nest n m c (behind headerWidth bs) (fitting .depth-most) (fitting .count-most))
 
     -- it has line 1's shape, so the refusals of line 1 are not met
-    shape-kept : firstMet (bodyOf bs) headerOrder ≡ 0
+    pub shape-kept : firstMet (bodyOf bs) headerOrder ≡ 0
     shape-kept =
         let f = filled-shape n m c (lineNumbers (widths n m) (behind headerWidth bs)) in
         same-shape (bodyOf bs) (headerOf bs) (ap (λ (s : LoopNest). s .depth) body-filled ∙ (f .0 ∙ sym (fitting .depth-is)))
@@ -255,13 +263,18 @@ module _ (bs : Bytes) where
     rest-refusal : readRefusal bs ≡ bodyRefusal
     rest-refusal = in-two ∙ orElse-second (headerRefusal bs) bodyRefusal none
 
+    -- the rest of an accepted text is in form
+    pub rest-form : readRefusal bs ≡ 0 → areLines (widthsOf bs) (behind headerWidth bs) ≡ true
+    rest-form e =
+        form-kept (areLines (widthsOf bs) (behind headerWidth bs)) (orElse-zero (malformedUnless (areLines (widthsOf bs) (behind headerWidth bs))) (firstMet (bodyOf bs) bodyOrder) (sym rest-refusal ∙ e) .0)
+
     -- a malformed rest
-    rest-malformed : areLines (widthsOf bs) (behind headerWidth bs) ≡ false → readRefusal bs ≡ 1
+    pub rest-malformed : areLines (widthsOf bs) (behind headerWidth bs) ≡ false → readRefusal bs ≡ 1
     unfolding orElse
     rest-malformed e = rest-refusal ∙ (rw e refl)
 
     -- a rest in form
-    rest-checked : areLines (widthsOf bs) (behind headerWidth bs) ≡ true → readRefusal bs ≡ refusal (bodyOf bs)
+    pub rest-checked : areLines (widthsOf bs) (behind headerWidth bs) ≡ true → readRefusal bs ≡ refusal (bodyOf bs)
     unfolding orElse
     rest-checked e = rest-refusal ∙ (rw e (sym body-checked))
 
@@ -325,7 +338,7 @@ module _ (bs : Bytes) where
     first-refused h =
         read
         ∙ (sym (header-refused (first .refusal) first-number h)
-        ∙ whole-refused (first .refusal) (in-two ∙ (orElse-first (headerRefusal bs) bodyRefusal (λ e. h (sym first-number ∙ e)) ∙ first-number)) h)
+        ∙ whole-refused (first .refusal) (header-answers (λ e. h (sym first-number ∙ e)) ∙ first-number) h)
 
     -- line 1 has passed
     pub first-passed : first .refusal ≡ 0 → Passed bs (first .nest)

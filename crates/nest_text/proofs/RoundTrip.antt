@@ -1,44 +1,34 @@
 -- The round trip: the text of an accepted nest is read as that nest with 0 in the places that are no part of it, and an accepted text is written again byte for byte.
 -- Assumes nothing.
 use mathlib.Core.Path.{_≡_, refl, sym, ap, ap₂, subst, _∙_}
-use mathlib.Core.Bool.{Bool, true, false}
+use mathlib.Core.Bool.{true}
 use mathlib.Core.List.{List, [], _∷_, _++_, map, flatMap, List·Memᴰ, List·Memᴰ·head, List·Memᴰ·tail}
 use Prim.Native.Nat.{ℕ, zero, suc, _+_, _*_, _-_, _≤_, _<_}
-use native.Mathlib.Nat.{suc-ne-zero}
 use native.Mathlib.Omega.{arith}
-use borrow.Author.Tests.{eq-eqb}
 use lib.IntN.{ℤ, pos, negsuc}
 use lib.Signed.{leZ, leZ-yes, _≤ℤ_}
 use lib.ListN.{length, getD}
 use Rattle.integers.specs.Lists.{tab, and-true, true-T, map-tab}
 use Rattle.nest.specs.declared.LoopNest.{LoopNest}
-use Rattle.nest.specs.Nest.{part, depthOf, countOf, limitAt, limitsOf, timeOf, dependenceAt, dependencesOf, weightsOf, cleared, emptyNest, maxDepth, maxDependences, maxCube}
-use Rattle.nest.specs.Refusals.{Refusal, badDepth, badCount, badCube, outside, holds, firstMet, headerOrder, bodyOrder, refusal, orElse}
-use Rattle.nest.proofs.Entries.{orElse-zero}
-use Rattle.nest.proofs.FirstMet.{passed}
+use Rattle.nest.specs.Nest.{part, depthOf, countOf, limitAt, limitsOf, timeOf, dependenceAt, dependencesOf, weightsOf, cleared, maxDepth}
+use Rattle.nest.specs.Refusals.{firstMet, headerOrder, bodyOrder, refusal}
+use Rattle.nest.proofs.FirstMet.{accepted-header}
+use Rattle.nest_text.specs.declared.Reading.{Reading}
 use Rattle.nest_text.specs.Fields.{Bytes, fieldOf}
-use Rattle.nest_text.specs.Text.{line, linesOf, textOf, isLine, numbersOf, behind, areLines, lineNumbers, headerWidth, widths, headed, nestFrom, headerOf, widthsOf, bodyOf, malformedUnless, readRefusal, readNest}
+use Rattle.nest_text.specs.Text.{line, linesOf, textOf, isLine, numbersOf, behind, areLines, lineNumbers, headerWidth, widths, headed, nestFrom, headerOf, widthsOf, bodyOf, readRefusal, readNest}
+use Rattle.nest_text.specs.Reader.{headerRefusal}
 use Rattle.nest_text.specs.Stored.{InColumns}
+use Rattle.nest_text.specs.Form.{AllInColumns, LinesInColumns, Begins, Consists, Whole}
 use Rattle.nest_text.proofs.WriteLaws.{field-length}
 use Rattle.nest.proofs.Spans.{Spans, spans, HeaderSpans, header-spans}
 use Rattle.nest.proofs.Refused.{accepted, none-of}
 use Rattle.nest_text.proofs.TextLength.{shapeLine, shape-columns, limits-columns, time-columns, dependence-columns, boundary-columns, weight-columns}
-use Rattle.nest_text.proofs.LineBack.{AllInColumns, LinesInColumns, LineRead, line-read, lines-read, line-again, lines-again, lines-widths, numbers-length}
-use Rattle.nest.proofs.Places.{same-holds, accepted-same}
-use Rattle.nest_text.proofs.NestLines.{Lines, pair, bodyLines, nest-again, body-widths, triple-back, Parts, parts, made, made-is, made-depth, made-count, made-cube, made-lines, made-clear}
+use Rattle.nest_text.proofs.LineBack.{LineRead, all-tab, line-read, lines-read, line-again, lines-again, lines-widths, numbers-length}
+use Rattle.nest_text.proofs.ReadLaws.{same-shape, header-checked, header-zero, whole-passed, header-form, header-fits, rest-form, rest-checked}
+use Rattle.nest.proofs.Places.{cleared-refusal}
+use Rattle.nest_text.proofs.NestLines.{Lines, pair, bodyLines, nest-again, body-widths, triple-back, Parts, parts, made, made-is, made-lines, made-clear}
 
 -- ---- every number of every line has room in six columns
-
--- numbers behind numbers
-all-append : (xs ys : List ℤ) → AllInColumns xs → AllInColumns ys → AllInColumns (xs ++ ys)
-all-append [] ys h k = k
-all-append (x ∷ xs) ys h k = (h .0, all-append xs ys (h .1) k)
-
--- a table of numbers
-all-tab : (g : ℕ → ℤ) (k : ℕ) → ((i : ℕ) → i < k → InColumns (g i)) → AllInColumns (tab g k)
-unfolding tab
-all-tab g zero h = tt
-all-tab g (suc k) h = all-append (tab g k) (g k ∷ []) (all-tab g k (λ i l. h i (omega arith))) (h k (omega arith), tt)
 
 -- lines behind lines
 lines-append : (xs ys : Lines) → LinesInColumns xs → LinesInColumns ys → LinesInColumns (xs ++ ys)
@@ -68,6 +58,11 @@ body-in s h =
           ((boundary-columns s h, all-tab (λ i. getD (s .weights) (0 + i) (pos 0)) (countOf s) (weight-columns s h)), tt),
     )
 
+-- every line of an accepted nest
+lines-in : (s : LoopNest) → refusal s ≡ 0 → LinesInColumns (linesOf s)
+unfolding linesOf
+lines-in s e = (shape-in s (spans s e), body-in s (spans s e))
+
 -- each number of a line
 all-each : (zs : List ℤ) → AllInColumns zs → (z : ℤ) → List·Memᴰ z zs → InColumns z
 all-each [] h z m = elim m [ ]
@@ -83,24 +78,14 @@ lines-each (l ∷ ls) h zs (List·Memᴰ·tail m) = lines-each ls (h .1) zs m
 -- every number that is written for an accepted nest is from -99999 to 999999, and its field has six bytes
 pub fits-columns : (s : LoopNest) → refusal s ≡ 0 → (zs : List ℤ) → List·Memᴰ zs (linesOf s) → (z : ℤ) → List·Memᴰ z zs
     → (negsuc 99998 ≤ℤ z) × (z ≤ℤ pos 999999) × (length (fieldOf z) ≡ 6)
-unfolding linesOf
 fits-columns s e zs m z n =
-    let h = spans s e in
-    let c = all-each zs (lines-each (shapeLine s ∷ bodyLines s) (shape-in s h, body-in s h) zs m) z n in
+    let c = all-each zs (lines-each (linesOf s) (lines-in s e) zs m) z n in
     let b = and-true (leZ (negsuc 99998) z) (leZ z (pos 999999)) c in
     (leZ-yes (true-T (b .0)), leZ-yes (true-T (b .1)), field-length z c)
 
--- ---- the answers of several tests in order
-
--- no refusal of four
-all-zero : {a b c d : ℕ} → a ≡ 0 → b ≡ 0 → c ≡ 0 → d ≡ 0 → orElse a (orElse b (orElse c d)) ≡ 0
-unfolding orElse
-all-zero p q r t = ap₂ orElse p (ap₂ orElse q (ap₂ orElse r t))
-
 -- an accepted text is read as what its lines say
-read-is : (bs : Bytes) → readRefusal bs ≡ 0 → readNest bs ≡ bodyOf bs
-unfolding readNest
-read-is bs e = ap (λ b. elim b as (λ _. LoopNest) [ true ↦ bodyOf bs | false ↦ emptyNest ]) (eq-eqb (readRefusal bs) 0 e)
+pub read-is : (bs : Bytes) → readRefusal bs ≡ 0 → readNest bs ≡ bodyOf bs
+read-is bs e = sym (ap (λ (x : Reading). x .nest) (whole-passed bs e))
 
 -- ---- what was written is read
 
@@ -128,14 +113,14 @@ module _ (s : LoopNest) (bs rest : Bytes) (r : LineRead (shapeLine s) rest bs) w
   body-read e =
       ap₂ (λ (x : LoopNest) (ls : Lines). nestFrom (depthOf x) (countOf x) (x .cube) ls) header-read (ap₂ lineNumbers widths-read (r .rest-is) ∙ e) ∙ nest-again s
 
--- the text of an accepted nest
-text-read : (s : LoopNest) → Spans s → TextRead s (textOf s)
+-- the text of a nest with its numbers in columns
+text-read : (s : LoopNest) → LinesInColumns (linesOf s) → TextRead s (textOf s)
 unfolding textOf linesOf flatMap
 text-read s h =
     let rest = flatMap line (bodyLines s) in
     let bs = line (shapeLine s) ++ rest in
-    let r = line-read (shapeLine s) rest (shape-in s h) in
-    let b = lines-read (bodyLines s) (body-in s h) in
+    let r = line-read (shapeLine s) rest (h .0) in
+    let b = lines-read (bodyLines s) (h .1) in
     record {
       first = r .in-form;
       header = header-read s bs rest r;
@@ -144,63 +129,29 @@ text-read s h =
     }
 
 -- a line 1 with these numbers meets the conditions that the nest meets
-shape-holds : (s : LoopNest) → refusal s ≡ 0 → firstMet (headed (shapeLine s)) headerOrder ≡ 0
-unfolding headed holds
-shape-holds s e =
-    let x = headed (shapeLine s) in
-    passed x badDepth (badCount ∷ badCube ∷ []) (accepted s e badDepth) ∙ passed x badCount (badCube ∷ []) (accepted s e badCount) ∙ passed x badCube [] (accepted s e badCube) ∙ none-first x
-  where
-    none-first : (x : LoopNest) → firstMet x [] ≡ 0
-    none-first x = unfold firstMet in refl
+pub shape-same : (s : LoopNest) → firstMet (headed (shapeLine s)) headerOrder ≡ firstMet s headerOrder
+unfolding headed
+shape-same s = same-shape (headed (shapeLine s)) s refl refl refl
 
--- the nest that is read where an accepted one was written is accepted
-pub cleared-accepted : (s : LoopNest) → refusal s ≡ 0 → (rs : List Refusal) → firstMet (cleared s) rs ≡ 0
-cleared-accepted s e rs = none-of (cleared s) (λ r. same-holds (accepted-same s e) r ∙ accepted s e r) rs
+-- it is answered as the nest with 0 in the places that are no part of it, where line 1 passes
+pub text-answered : (s : LoopNest) → LinesInColumns (linesOf s) → firstMet s headerOrder ≡ 0 → readRefusal (textOf s) ≡ refusal (cleared s)
+text-answered s h e =
+    let bs = textOf s in
+    let r = text-read s h in
+    let none = header-checked bs (r .first) ∙ ap (λ x. firstMet x headerOrder) (r .header) ∙ shape-same s ∙ e in
+    rest-checked bs none (r .others) ∙ ap refusal (r .body)
 
 -- reading what was written gives the same nest, with 0 in the places that are no part of it
 pub read-written : (s : LoopNest) → refusal s ≡ 0 → (readRefusal (textOf s) ≡ 0) × (readNest (textOf s) ≡ cleared s)
-unfolding readRefusal
 read-written s e =
-    let bs = textOf s in
-    let r = text-read s (spans s e) in
-    let zero-is : readRefusal bs ≡ 0 = all-zero (ap malformedUnless (r .first)) (ap (λ x. firstMet x headerOrder) (r .header) ∙ shape-holds s e) (ap malformedUnless (r .others)) (ap (λ x. firstMet x bodyOrder) (r .body) ∙ cleared-accepted s e bodyOrder) in
-    (zero-is, read-is bs zero-is ∙ r .body)
+    let h = lines-in s e in
+    let zero-is = text-answered s h (accepted-header s e) ∙ (cleared-refusal s ∙ e) in
+    (zero-is, read-is (textOf s) zero-is ∙ text-read s h .body)
 
 -- ---- what was read is written
 
--- the form is kept
-in-form : (b : Bool) → malformedUnless b ≡ 0 → b ≡ true
-in-form true e = refl
-in-form false e = absurd (suc-ne-zero 0 e)
-
--- what an accepted text has
-record InOrder (bs : Bytes) : Type 0 where
-  first : isLine headerWidth bs ≡ true
-  header : firstMet (headerOf bs) headerOrder ≡ 0
-  others : areLines (widthsOf bs) (behind headerWidth bs) ≡ true
-  body : firstMet (bodyOf bs) bodyOrder ≡ 0
-
--- no test refuses an accepted text
-in-order : (bs : Bytes) → readRefusal bs ≡ 0 → InOrder bs
-unfolding readRefusal
-in-order bs e =
-    let form = malformedUnless (areLines (widthsOf bs) (behind headerWidth bs)) in
-    let body = firstMet (bodyOf bs) bodyOrder in
-    let header = firstMet (headerOf bs) headerOrder in
-    let a = orElse-zero (malformedUnless (isLine headerWidth bs)) (orElse header (orElse form body)) e in
-    let b = orElse-zero header (orElse form body) (a .1) in
-    let c = orElse-zero form body (b .1) in
-    record { first = in-form (isLine headerWidth bs) (a .0); header = b .0; others = in-form (areLines (widthsOf bs) (behind headerWidth bs)) (c .0); body = c .1 }
-
--- the same line 1 is refused in the same way
-refused-alike : (x y : LoopNest) → x .depth ≡ y .depth → x .count ≡ y .count → x .cube ≡ y .cube → HeaderSpans y → (rs : List Refusal) → firstMet x rs ≡ 0 → firstMet x (headerOrder ++ rs) ≡ 0
-unfolding holds
-refused-alike x y d m c h rs e =
-    passed x badDepth (badCount ∷ badCube ∷ rs) (ap (outside (pos 1) (pos maxDepth)) d ∙ h .not-depth) ∙ passed x badCount (badCube ∷ rs) (ap (outside (pos 1) (pos maxDependences)) m ∙ h .not-count)
-    ∙ passed x badCube rs (ap (outside (pos 0) (pos maxCube)) c ∙ h .not-cube) ∙ e
-
 -- line 1 has the numbers that it is read as
-header-is : (bs : Bytes) → headerOf bs .depth ∷ headerOf bs .count ∷ headerOf bs .cube ∷ [] ≡ numbersOf headerWidth bs
+pub header-is : (bs : Bytes) → headerOf bs .depth ∷ headerOf bs .count ∷ headerOf bs .cube ∷ [] ≡ numbersOf headerWidth bs
 unfolding headerOf headed
 header-is bs = triple-back (numbersOf headerWidth bs) (numbers-length headerWidth bs)
 
@@ -210,10 +161,14 @@ pub record WrittenRead (bs : Bytes) : Type 0 where
   pub accepted : refusal (readNest bs) ≡ 0
   pub clear-places : cleared (readNest bs) ≡ readNest bs
 
--- what the lines of an accepted text say, written again
-body-again : (bs : Bytes) → InOrder bs → (textOf (bodyOf bs) ≡ bs) × (refusal (bodyOf bs) ≡ 0) × (cleared (bodyOf bs) ≡ bodyOf bs)
+-- a text in form, with line 1 in span, is the text of the nest that its lines say
+pub body-whole : (bs : Bytes) → headerRefusal bs ≡ 0 → areLines (widthsOf bs) (behind headerWidth bs) ≡ true → Whole bs (bodyOf bs)
 unfolding bodyOf widthsOf
-body-again bs h = subst (λ z. (textOf z ≡ bs) × (refusal z ≡ 0) × (cleared z ≡ z)) (sym is) (text, accepted, made-clear n m c ls p few)
+body-whole bs none others = subst (Whole bs) (sym (made-is n m c ls p few)) (record {
+  in-columns = subst LinesInColumns (sym lines) (first .0, rest .0);
+  text-is = unfold textOf flatMap in first .1 ∙ ap (λ l. line (numbersOf headerWidth bs) ++ l) (rest .1) ∙ sym (ap (flatMap line) lines);
+  other-places = made-clear n m c ls p few;
+})
   where
     y : LoopNest
     y = headerOf bs
@@ -231,7 +186,7 @@ body-again bs h = subst (λ z. (textOf z ≡ bs) × (refusal z ≡ 0) × (cleare
     ls = lineNumbers (widths n m) (behind headerWidth bs)
 
     sh : HeaderSpans y
-    sh = header-spans y (h .header)
+    sh = header-spans y (header-fits bs none)
 
     few : n ≤ maxDepth
     few = sh .depth-few
@@ -239,31 +194,24 @@ body-again bs h = subst (λ z. (textOf z ≡ bs) × (refusal z ≡ 0) × (cleare
     p : Parts n m ls
     p = parts n m ls (lines-widths (widths n m) (behind headerWidth bs))
 
-    x : LoopNest
-    x = made n m c ls p few
+    first : Begins bs (numbersOf headerWidth bs) (behind headerWidth bs)
+    first = line-again headerWidth bs (header-form bs none)
 
-    is : nestFrom n m c ls ≡ x
-    is = made-is n m c ls p few
+    rest : Consists (behind headerWidth bs) ls
+    rest = lines-again (widths n m) (behind headerWidth bs) others
 
-    lines : linesOf x ≡ numbersOf headerWidth bs ∷ ls
+    lines : linesOf (made n m c ls p few) ≡ numbersOf headerWidth bs ∷ ls
     lines = made-lines n m c ls p few ∙ ap (λ (z : List ℤ). z ∷ ls) (ap₂ (λ (a b : ℤ). a ∷ b ∷ c ∷ []) (sym (sh .depth-is)) (sym (sh .count-is)) ∙ header-is bs)
-
-    text : textOf x ≡ bs
-    text = unfold textOf flatMap in
-        ap (flatMap line) lines ∙ ap (λ l. line (numbersOf headerWidth bs) ++ l) (lines-again (widths n m) (behind headerWidth bs) (h .others)) ∙ line-again headerWidth bs (h .first)
-
-    accepted : refusal x ≡ 0
-    accepted = unfold refusal in
-        refused-alike x y (made-depth n m c ls p few ∙ sym (sh .depth-is)) (made-count n m c ls p few ∙ sym (sh .count-is)) (made-cube n m c ls p few) sh bodyOrder
-        (subst (λ z. firstMet z bodyOrder ≡ 0) is (h .body))
 
 -- writing what was read gives the same bytes
 pub written-read : (bs : Bytes) → readRefusal bs ≡ 0 → WrittenRead bs
 written-read bs e =
-    let r = body-again bs (in-order bs e) in
+    let none = header-zero bs e in
+    let form = rest-form bs none e in
+    let w = body-whole bs none form in
     let is = read-is bs e in
     record {
-      same-bytes = ap textOf is ∙ r .0;
-      accepted = ap refusal is ∙ r .1;
-      clear-places = ap cleared is ∙ r .2 ∙ sym is;
+      same-bytes = ap textOf is ∙ sym (w .text-is);
+      accepted = ap refusal is ∙ sym (rest-checked bs none form) ∙ e;
+      clear-places = ap cleared is ∙ w .other-places ∙ sym is;
     }

@@ -3,4 +3,5 @@ pub mod Fields
 pub mod Text
 pub mod Reader
 pub mod Stored
+pub mod Form
 pub mod Examples

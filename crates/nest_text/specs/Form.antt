@@ -1,0 +1,89 @@
+-- The form of a text, and what reading it answers, in document 01's words. proofs/ shows that what is computed is exactly this: Numerals.antt for Fields.readOf,
+-- LineBack.antt for Text.isLine and Text.areLines, SaysLaws.antt for Text.readRefusal and Text.readNest.
+-- Assumes nothing.
+use mathlib.Core.Path.{_≡_}
+use mathlib.Core.List.{List, [], _∷_, _++_, map, flatMap}
+use Prim.Native.Nat.{ℕ, _+_, _*_, _^_, _<_, _≤_}
+use lib.IntN.{ℤ, pos, negℤ}
+use lib.ListN.{length, getD, replicate}
+use Rattle.nest.specs.declared.LoopNest.{LoopNest}
+use Rattle.nest.specs.Nest.{toℕ, cleared, emptyNest}
+use Rattle.nest.specs.Refusals.{Refusal, number, Condition}
+use Rattle.nest_text.specs.Fields.{Bytes}
+use Rattle.nest_text.specs.Text.{line, linesOf, textOf, widths, headed}
+use Rattle.nest_text.specs.Stored.{InColumns}
+
+-- ---- a number in columns
+
+-- each is one of 0 to 9
+abbrev pub EachDigit : List ℕ → Type 0
+EachDigit [] = Unit {0}
+EachDigit (d ∷ ds) = (d < 10) × EachDigit ds
+
+-- digits with no leading zero
+pub record Decimal (ds : List ℕ) : Type 0 where
+  pub some-digit : 0 < length ds
+  pub each-digit : EachDigit ds
+  pub no-leading-zero : getD ds 0 0 ≡ 0 → length ds ≡ 1
+
+-- the number that digits say: each times its power of ten
+unfoldable pub decimal : List ℕ → ℕ
+decimal [] = 0
+decimal (d ∷ ds) = d * 10 ^ length ds + decimal ds
+
+-- their bytes
+abbrev pub digitBytes : List ℕ → Bytes
+digitBytes ds = map (λ d. 48 + d) ds
+
+-- the bytes say the number
+pub data Numeral (bs : Bytes) : ℤ → Type 0 where
+  -- spaces, digits
+  digits-alone : (k : ℕ) (ds : List ℕ) → Decimal ds → bs ≡ replicate k 32 ++ digitBytes ds → Numeral bs (pos (decimal ds))
+  -- spaces, a minus, digits; no minus zero
+  minus-digits : (k : ℕ) (ds : List ℕ) → Decimal ds → 0 < decimal ds → bs ≡ replicate k 32 ++ (45 ∷ digitBytes ds) → Numeral bs (negℤ (pos (decimal ds)))
+
+-- ---- lines
+
+-- each is a number that six columns hold
+abbrev pub AllInColumns : List ℤ → Type 0
+AllInColumns [] = Unit {0}
+AllInColumns (z ∷ zs) = InColumns z × AllInColumns zs
+
+-- the same of each line
+abbrev pub LinesInColumns : List (List ℤ) → Type 0
+LinesInColumns [] = Unit {0}
+LinesInColumns (l ∷ ls) = AllInColumns l × LinesInColumns ls
+
+-- the bytes begin with a line: the field of each of these numbers (six bytes that say it, Numerals.field-words), then byte 10; the rest stands behind it
+abbrev pub Begins : Bytes → List ℤ → Bytes → Type 0
+Begins bs zs rest = AllInColumns zs × (bs ≡ line zs ++ rest)
+
+-- the bytes are the lines of these numbers, and nothing follows the last
+abbrev pub Consists : Bytes → List (List ℤ) → Type 0
+Consists bs ls = LinesInColumns ls × (bs ≡ flatMap line ls)
+
+-- ---- the whole text
+
+-- it is in form and says the nest: it is the nest's text, each number in columns, and places that it has no field for are 0
+pub record Whole (bs : Bytes) (s : LoopNest) : Type 0 where
+  pub in-columns : LinesInColumns (linesOf s)
+  pub text-is : bs ≡ textOf s
+  pub other-places : cleared s ≡ s
+
+-- condition r is met, and none before it
+abbrev pub First : LoopNest → Refusal → Type 0
+First s r = Condition s r × ((q : Refusal) → number q < number r → Condition s q → ⊥)
+
+-- what reading answers: a number, and a nest, which is 0 in every place where the text is refused
+pub data ReadSays (bs : Bytes) : ℕ → LoopNest → Type 0 where
+  -- line 1 is not in form: 1
+  line-malformed : ((n m c : ℤ) (rest : Bytes) → Begins bs (n ∷ m ∷ c ∷ []) rest → ⊥) → ReadSays bs 1 emptyNest
+  -- line 1 says n, m and c, of whose conditions r is the first met: 2, 3 or 4
+  line-refused : (n m c : ℤ) (rest : Bytes) (r : Refusal) → Begins bs (n ∷ m ∷ c ∷ []) rest → number r ≤ 4 → First (headed (n ∷ m ∷ c ∷ [])) r → ReadSays bs (number r) emptyNest
+  -- none of 2, 3, 4 is met, and the rest is not the lines that n and m ask for: 1
+  rest-malformed : (n m c : ℤ) (rest : Bytes) → Begins bs (n ∷ m ∷ c ∷ []) rest → ((q : Refusal) → number q ≤ 4 → Condition (headed (n ∷ m ∷ c ∷ [])) q → ⊥)
+      → ((ls : List (List ℤ)) → map length ls ≡ widths (toℕ n) (toℕ m) → Consists rest ls → ⊥) → ReadSays bs 1 emptyNest
+  -- the text says a nest of whose conditions r is the first met: 5 to 13
+  nest-refused : (s : LoopNest) (r : Refusal) → Whole bs s → 5 ≤ number r → First s r → ReadSays bs (number r) emptyNest
+  -- the text says a nest of which no condition is met: 0, with the nest
+  nest-accepted : (s : LoopNest) → Whole bs s → ((q : Refusal) → Condition s q → ⊥) → ReadSays bs 0 s
