@@ -11,10 +11,11 @@ use Rattle.nest.specs.Nest.{toℕ, part, limitsOf, timeOf, dependencesOf, weigh
 use Rattle.nest.specs.Points.{extent, indices, points, pointsOf, pointCount, rank, isPoint, source}
 use Rattle.nest.specs.Refusals.{number, outside, crossed, outOfSpan, backward, holds, firstMet, refusal, orElse, shortBuffer}
 use Rattle.nest.specs.Sources.{sourceRank}
-use Rattle.partition.specs.Projection.{projection, divides, makesWhole, multiplier, groupSize, leastZ, step}
-use Rattle.partition.specs.Grouping.{pivot, clear, remainder, mayGroup, groupingVector, extend, chosenVectors, latest, coefficients, left, isCombination, frame, directions, difference, sameClass, coordinates, seeds, eqG, quotients, classNumber, group, blocks, blockNumber}
-use Rattle.partition.specs.Partition.{stepsOf, frameOf, groupsOf}
-use Rattle.mapping.specs.Mapping.{inOrder, greatestZ, direction, undealt, takesBit, withBit as dealtBit, noDirection, nextTurn, dealBit, dealBits, dealt, gray, partOf, joined, processor, directionsOf, processorsOf, crosses, isMessage}
+use Rattle.grouping.specs.Projection.{projection, divides, makesWhole, multiplier, groupSize}
+use Rattle.integers.specs.Extremes.{leastZ, greatestZ}
+use Rattle.partition.specs.Partition.{step, stepsOf, frameOf, groupsOf}
+use Rattle.grouping.specs.Grouping.{pivot, clear, remainder, mayGroup, groupingVector, extend, chosenVectors, latest, coefficients, left, isCombination, frame, directions, difference, sameClass, coordinates, seeds, eqG, quotients, classNumber, group, blocks, blockNumber}
+use Rattle.mapping.specs.Mapping.{inOrder, direction, undealt, takesBit, withBit as dealtBit, noDirection, nextTurn, dealBit, dealBits, dealt, gray, partOf, joined, processor, directionsOf, processorsOf, crosses, isMessage}
 use Rattle.sequential.specs.Sequential.{sourceValue, valueOf, sum, weightedSum, ruleOf}
 use Rattle.planner.specs.Examples.{vector, listed}
 use Rattle.execution.specs.Rules.{every, better, least, Move, compute, deliver, Layout, taking, delivering, effect}

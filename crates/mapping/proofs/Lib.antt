@@ -4,7 +4,6 @@ pub mod Deals
 pub mod Codes
 pub mod Groups
 pub mod Different
-pub mod Extremes
 pub mod Rows
 pub mod Arrays
 pub mod Filled

@@ -12,10 +12,9 @@ ghost use Rattle.integers.specs.Lists.{tab, count, firsts};
 ghost use Rattle.nest.specs.Nest.{toℕ, countOf, padded, maxDepth, maxCube, maxIterations};
 ghost use Rattle.nest.specs.Points.{pointsOf};
 ghost use Rattle.nest.specs.Refusals.{refusal};
-ghost use Rattle.partition.specs.Projection.{leastZ};
-ghost use Rattle.partition.specs.Periods.{maxZ};
-ghost use Rattle.mapping.specs.Mapping.{greatestZ, nextTurn, dealt, gray, partOf, joined, isMessage, total};
-ghost use Rattle.mapping.specs.Keys.{rowLength, maxKey, valuesIn, Keyed, lesserZ, column, spanOf, directionsIn, processorsIn, held, Fits, bitsIn, Dealt, oneIf};
+ghost use Rattle.integers.specs.Extremes.{leastZ, greatestZ};
+ghost use Rattle.mapping.specs.Mapping.{nextTurn, dealt, gray, partOf, joined, isMessage, total};
+ghost use Rattle.mapping.specs.Keys.{rowLength, maxKey, valuesIn, Keyed, column, spanOf, directionsIn, processorsIn, held, Fits, bitsIn, Dealt, oneIf};
 
 // Numbers a row of the table of keys: class, q, b, and one that is not read here.
 const ROW: usize = 4;
@@ -54,20 +53,6 @@ fn code_of(value: i64, least: i64, width: u64, bits: u64) -> u64
     gray_of(height(least, value) * power(bits) / width)
 }
 
-// The lesser of two numbers.
-fn lesser(a: i64, b: i64) -> i64
-    ensures { λ r. ⌜ r ≡ lesserZ a b ⌝ }
-{
-    if b < a { b } else { a }
-}
-
-// The larger of two numbers.
-fn larger(a: i64, b: i64) -> i64
-    ensures { λ r. ⌜ r ≡ maxZ a b ⌝ }
-{
-    if a < b { b } else { a }
-}
-
 // The least of the numbers j of n rows.
 fn least_in(keys: &[i64], j: usize, n: usize) -> i64
     requires { ⌜ (1 ≤ n) × (n ≤ maxIterations) × (j < maxDepth) × (n * rowLength ≤ length (now keys)) ⌝ }
@@ -75,7 +60,7 @@ fn least_in(keys: &[i64], j: usize, n: usize) -> i64
 {
     let mut least = keys[j];
     for k in 1..n {
-        least = lesser(least, keys[k * ROW + j]);
+        least = integers::lesser(least, keys[k * ROW + j]);
     }
     least
 }
@@ -87,7 +72,7 @@ fn greatest_in(keys: &[i64], j: usize, n: usize) -> i64
 {
     let mut greatest = keys[j];
     for k in 1..n {
-        greatest = larger(greatest, keys[k * ROW + j]);
+        greatest = integers::larger(greatest, keys[k * ROW + j]);
     }
     greatest
 }

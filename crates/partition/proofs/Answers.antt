@@ -14,19 +14,19 @@ use Rattle.nest.specs.declared.LoopNest.{LoopNest}
 use Rattle.nest.specs.Nest.{padded, depthOf, timeOf, dependencesOf}
 use Rattle.nest.specs.Points.{pointsOf}
 use Rattle.nest.specs.Refusals.{refusal}
-use Rattle.partition.specs.Projection.{groupSize}
-use Rattle.partition.specs.Grouping.{Frame, frame, chosenVectors, chosenCount, sameClass, seeds, classNumber, Group, group, blocks, blockNumber}
+use Rattle.grouping.specs.Projection.{groupSize}
+use Rattle.grouping.specs.Grouping.{Frame, frame, chosenVectors, chosenCount, sameClass, seeds, classNumber, Group, group, blocks, blockNumber}
 use Rattle.partition.specs.Partition.{frameOf, groupsOf, blocksOf, blockCount}
-use Rattle.partition.specs.Basis.{pick, Framed, basisFrame, Grouped}
+use Rattle.grouping.specs.Basis.{pick, Framed, basisFrame, Grouped}
 use Rattle.partition.specs.GroupRows.{noGroup, GroupRow, GroupTable}
-use Rattle.partition.specs.Tables.{row, rows}
-use Rattle.partition.proofs.ListFacts.{firsts-cover}
-use Rattle.partition.proofs.Vectors.{AllLength}
-use Rattle.partition.proofs.Listed.{length-rows, getD-rows}
+use Rattle.numbering.specs.Tables.{row, rows}
+use Rattle.integers.proofs.ListFacts.{firsts-cover}
+use Rattle.grouping.proofs.Vectors.{AllLength}
+use Rattle.numbering.proofs.Rows.{length-rows, getD-rows}
 use Rattle.partition.proofs.ClassFacts.{class-refl}
 use Rattle.partition.proofs.KeyTable.{size-free}
 use Rattle.partition.proofs.KeyNumbers.{block-numbers, block-count}
-use Rattle.partition.proofs.Padded.{pad, padFrame, sameClass-pad, seeds-pad, seeds-length, group-pad, chosen-length}
+use Rattle.grouping.proofs.Padded.{pad, padFrame, sameClass-pad, seeds-pad, seeds-length, group-pad, chosen-length}
 use Rattle.partition.proofs.NestVectors.{depth-few, time-length, dependences-length, points-length, padded-is, paddeds-are}
 
 -- a member has the length of all

@@ -1,24 +1,22 @@
--- What the loops over the points use: differences, one class, heads of classes. Assumes nothing.
-use mathlib.Core.Path.{_≡_, refl, sym, ap, ap₂, _∙_, subst}
-use mathlib.Core.Bool.{Bool, true, false}
-use mathlib.Core.List.{List, [], _∷_, _++_, map, List·Memᴰ, List·Memᴰ·head, List·Memᴰ·tail}
-use Prim.Native.Nat.{ℕ, zero, suc, _+_, _*_, _<_, _≤_}
+-- What the loops over the points use: differences, one class. Assumes nothing.
+use mathlib.Core.Path.{_≡_, sym, ap, ap₂, _∙_, subst}
+use mathlib.Core.Bool.{true}
+use mathlib.Core.List.{List, [], _∷_, map}
+use Prim.Native.Nat.{ℕ, _+_, _*_, _≤_}
 use lib.IntN.{ℤ, pos, negsuc, natAbs, _+ℤ_, _-ℤ_, _*ℤ_}
-use lib.ListN.{length, getD, take, length-map}
-use lib.Seq.{getD-take, length-take-le}
+use lib.ListN.{length, getD}
 use Rattle.integers.specs.Bounds.{abs-sub}
 use Rattle.integers.specs.Solver.{var, con, _⊕_, _⊖_, _⊗_, ring}
 use Rattle.integers.specs.Vector.{AllWithin, getD-within, Vector, dots, plus, times, minus, dots-minus}
-use Rattle.integers.specs.Lists.{place, T-true}
-use Rattle.partition.specs.Projection.{projection}
-use Rattle.partition.specs.Grouping.{isCombination, sameClass, directions, difference}
-use Rattle.partition.specs.Basis.{pick, Framed, inOneClass}
-use Rattle.partition.specs.Tables.{row, rows}
-use Rattle.partition.proofs.Vectors.{comp, same-components, length-minus, comp-minus, comp-projection}
-use Rattle.partition.proofs.Classes.{Sound, same-class-refl}
-use Rattle.partition.proofs.Four.{length-four-projection}
-use Rattle.partition.proofs.Inside.{pick-lengths}
-use Rattle.partition.proofs.Listed.{place-none}
+use Rattle.integers.specs.Lists.{T-true}
+use Rattle.grouping.specs.Projection.{projection}
+use Rattle.grouping.specs.Grouping.{isCombination, sameClass, directions, difference}
+use Rattle.grouping.specs.Basis.{pick, Framed, inOneClass}
+use Rattle.numbering.specs.Tables.{row}
+use Rattle.grouping.proofs.Vectors.{comp, same-components, length-minus, comp-minus, comp-projection}
+use Rattle.grouping.proofs.Classes.{Sound, same-class-refl}
+use Rattle.grouping.proofs.Four.{length-four-projection}
+use Rattle.grouping.proofs.Inside.{pick-lengths}
 
 -- ---- differences
 
@@ -63,34 +61,3 @@ sound {count} {a} {b} {c} F = record { time-length = F .lengths .0; chosen-lengt
 
 pub class-refl : {P : Vector} {count : ℕ} {a b c f1 f2 f3 : Vector} {d : ℤ} → Framed P count a b c f1 f2 f3 d → (y : Vector) → length y ≡ 4 → inOneClass P count a b c y y ≡ true
 class-refl {P} {count} {a} {b} {c} F y e = T-true (same-class-refl 4 (record { time = P; chosen = pick count a b c; size = 1 }) (sound F) y e)
-
-pub rows-length : (t : List ℤ) (n : ℕ) (y : Vector) → List·Memᴰ y (rows t n) → length y ≡ 4
-unfolding rows
-rows-length t zero y m = elim m [ ]
-rows-length t (suc n) y m = go (rows t n) m (rows-length t n y)
-  where
-    last : (zs : List Vector) → List·Memᴰ y (row t n ∷ []) → length y ≡ 4
-    last zs (List·Memᴰ·head e) = ap (λ (u : Vector). length u) e
-    last zs (List·Memᴰ·tail k) = elim k [ ]
-
-    go : (xs : List Vector) → List·Memᴰ y (xs ++ (row t n ∷ [])) → (List·Memᴰ y xs → length y ≡ 4) → length y ≡ 4
-    go [] m h = last [] m
-    go (x ∷ xs) (List·Memᴰ·head e) h = h (List·Memᴰ·head e)
-    go (x ∷ xs) (List·Memᴰ·tail k) h = go xs k (λ u. h (List·Memᴰ·tail u))
-
--- ---- heads
-
-pub getD-map : {A B : Type 0} (f : A → B) (d : A) (xs : List A) (i : ℕ) → getD (map f xs) i (f d) ≡ f (getD xs i d)
-getD-map f d [] i = refl
-getD-map f d (x ∷ xs) zero = refl
-getD-map f d (x ∷ xs) (suc i) = getD-map f d xs i
-
-pub length-heads : (t : List ℤ) (hs : List ℕ) (k : ℕ) → k ≤ length hs → length (map (row t) (take k hs)) ≡ k
-length-heads t hs k l = length-map (take k hs) (row t) ∙ length-take-le k hs l
-
-pub head-at : (t : List ℤ) (hs : List ℕ) (k c : ℕ) → c < k → getD (map (row t) (take k hs)) c (row t 0) ≡ row t (getD hs c 0)
-head-at t hs k c l = getD-map (row t) 0 (take k hs) c ∙ ap (row t) (getD-take k hs c 0 l)
-
-pub head-none : (p : Vector → Bool) (t : List ℤ) (hs : List ℕ) (k : ℕ) → k ≤ length hs → ((b : ℕ) → b < k → p (row t (getD hs b 0)) ≡ false) → k ≡ place p (map (row t) (take k hs))
-head-none p t hs k lk n =
-    sym (place-none (row t 0) p (map (row t) (take k hs)) (λ b h. let l = subst (λ (j : ℕ). b < j) (length-heads t hs k lk) h in ap p (head-at t hs k b l) ∙ n b l) ∙ length-heads t hs k lk)

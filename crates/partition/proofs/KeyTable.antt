@@ -2,100 +2,21 @@
 use mathlib.Core.Path.{_≡_, refl, sym, ap, _∙_, subst}
 use mathlib.Core.Bool.{Bool, true}
 use mathlib.Core.Logic.{_⊎_, inl, inr}
-use mathlib.Core.List.{List, [], _∷_, _++_, map, List·Memᴰ, List·Memᴰ·head, List·Memᴰ·tail}
+use mathlib.Core.List.{List, [], _∷_, map}
 use Prim.Native.Nat.{ℕ, zero, suc, _+_, _*_, _<_, _≤_}
 use native.Mathlib.Nat as NatL
 use native.Mathlib.Omega.{arith}
-use lib.IntN.{ℤ, pos, natAbs}
-use Rattle.integers.specs.Vector.{AllWithin, getD-within, Vector}
-use lib.ListN.{length, getD, take, drop, set, length-set, replicate, length-replicate, length-append}
-use lib.Seq.{getD-set-same, getD-set-other, drop-append-seam}
-use Rattle.integers.specs.Lists.{place, firsts, true-T, below-or-not}
-use Rattle.partition.specs.Grouping.{Frame, sameClass, seeds, classNumber, directions, difference}
-use Rattle.partition.specs.Tables.{row, rows, putRow}
-use Rattle.partition.specs.Basis.{Keyed, Grouped, basisFrame, inOneClass, pick, residues, ClassRows}
-use Rattle.partition.proofs.Four.{four}
-use Rattle.partition.proofs.Listed.{getD-before, getD-rows, length-rows, place-true}
-use Rattle.partition.proofs.ListFacts.{firsts-cover}
-use Rattle.partition.proofs.Numbering.{numbers, length-numbers, firsts-seen, firsts-new, place-append, place-last, place-no, place-most}
-use Rattle.partition.proofs.ClassFacts.{length-heads, head-at}
-use Rattle.partition.proofs.Table.{Numbered, numbered-start, numbered-more, number-most}
-
--- ---- one row stored
-
-put-other : (t : List ℤ) (i : ℕ) (g : Vector) (a : ℕ) → (a ≡ i * 4 → ⊥) → (a ≡ i * 4 + 1 → ⊥) → (a ≡ i * 4 + 2 → ⊥) → (a ≡ i * 4 + 3 → ⊥) → getD (putRow t i g) a (pos 0) ≡ getD t a (pos 0)
-put-other t i g a n0 n1 n2 n3 =
-    getD-set-other (set (set (set t (i * 4) (getD g 0 (pos 0))) (i * 4 + 1) (getD g 1 (pos 0))) (i * 4 + 2) (getD g 2 (pos 0))) (i * 4 + 3) a (getD g 3 (pos 0)) (pos 0) n3
-    ∙ getD-set-other (set (set t (i * 4) (getD g 0 (pos 0))) (i * 4 + 1) (getD g 1 (pos 0))) (i * 4 + 2) a (getD g 2 (pos 0)) (pos 0) n2
-    ∙ getD-set-other (set t (i * 4) (getD g 0 (pos 0))) (i * 4 + 1) a (getD g 1 (pos 0)) (pos 0) n1
-    ∙ getD-set-other t (i * 4) a (getD g 0 (pos 0)) (pos 0) n0
-
-pub put-length : (t : List ℤ) (i : ℕ) (g : Vector) → length (putRow t i g) ≡ length t
-put-length t i g =
-    length-set (set (set (set t (i * 4) (getD g 0 (pos 0))) (i * 4 + 1) (getD g 1 (pos 0))) (i * 4 + 2) (getD g 2 (pos 0))) (i * 4 + 3) (getD g 3 (pos 0))
-    ∙ length-set (set (set t (i * 4) (getD g 0 (pos 0))) (i * 4 + 1) (getD g 1 (pos 0))) (i * 4 + 2) (getD g 2 (pos 0))
-    ∙ length-set (set t (i * 4) (getD g 0 (pos 0))) (i * 4 + 1) (getD g 1 (pos 0)) ∙ length-set t (i * 4) (getD g 0 (pos 0))
-
-all-set : (A : ℕ) (t : List ℤ) (a : ℕ) (x : ℤ) → AllWithin A t → natAbs x ≤ A → AllWithin A (set t a x)
-all-set A [] a x h l = tt
-all-set A (y ∷ t) zero x h l = (l, h .1)
-all-set A (y ∷ t) (suc a) x h l = (h .0, all-set A t a x (h .1) l)
-
-pub put-within : (A : ℕ) (t : List ℤ) (i : ℕ) (g : Vector) → AllWithin A t → AllWithin A g → AllWithin A (putRow t i g)
-put-within A t i g h w =
-    all-set A (set (set (set t (i * 4) (getD g 0 (pos 0))) (i * 4 + 1) (getD g 1 (pos 0))) (i * 4 + 2) (getD g 2 (pos 0))) (i * 4 + 3) (getD g 3 (pos 0))
-    (all-set A (set (set t (i * 4) (getD g 0 (pos 0))) (i * 4 + 1) (getD g 1 (pos 0))) (i * 4 + 2) (getD g 2 (pos 0))
-    (all-set A (set t (i * 4) (getD g 0 (pos 0))) (i * 4 + 1) (getD g 1 (pos 0)) (all-set A t (i * 4) (getD g 0 (pos 0)) h (getD-within A g 0 w)) (getD-within A g 1 w)) (getD-within A g 2 w))
-    (getD-within A g 3 w)
-
-pub put-row : (t : List ℤ) (i : ℕ) (g : Vector) → i * 4 + 4 ≤ length t → length g ≡ 4 → row (putRow t i g) i ≡ g
-put-row t i g l e = cc (e0, e1, e2, e3, four g e)
-  where
-    t1 : List ℤ
-    t1 = set t (i * 4) (getD g 0 (pos 0))
-
-    t2 : List ℤ
-    t2 = set t1 (i * 4 + 1) (getD g 1 (pos 0))
-
-    t3 : List ℤ
-    t3 = set t2 (i * 4 + 2) (getD g 2 (pos 0))
-
-    l1 : length t1 ≡ length t
-    l1 = length-set t (i * 4) (getD g 0 (pos 0))
-
-    l2 : length t2 ≡ length t
-    l2 = length-set t1 (i * 4 + 1) (getD g 1 (pos 0)) ∙ l1
-
-    l3 : length t3 ≡ length t
-    l3 = length-set t2 (i * 4 + 2) (getD g 2 (pos 0)) ∙ l2
-
-    e3 : getD (set t3 (i * 4 + 3) (getD g 3 (pos 0))) (i * 4 + 3) (pos 0) ≡ getD g 3 (pos 0)
-    e3 = getD-set-same t3 (i * 4 + 3) (getD g 3 (pos 0)) (pos 0) (omega (arith, l3))
-
-    e2 : getD (set t3 (i * 4 + 3) (getD g 3 (pos 0))) (i * 4 + 2) (pos 0) ≡ getD g 2 (pos 0)
-    e2 = getD-set-other t3 (i * 4 + 3) (i * 4 + 2) (getD g 3 (pos 0)) (pos 0) (λ q. absurd (omega arith)) ∙ (getD-set-same t2 (i * 4 + 2) (getD g 2 (pos 0)) (pos 0) (omega (arith, l2)))
-
-    e1 : getD (set t3 (i * 4 + 3) (getD g 3 (pos 0))) (i * 4 + 1) (pos 0) ≡ getD g 1 (pos 0)
-    e1 =
-        getD-set-other t3 (i * 4 + 3) (i * 4 + 1) (getD g 3 (pos 0)) (pos 0) (λ q. absurd (omega arith))
-        ∙ (getD-set-other t2 (i * 4 + 2) (i * 4 + 1) (getD g 2 (pos 0)) (pos 0) (λ q. absurd (omega arith)))
-        ∙ (getD-set-same t1 (i * 4 + 1) (getD g 1 (pos 0)) (pos 0) (omega (arith, l1)))
-
-    e0 : getD (set t3 (i * 4 + 3) (getD g 3 (pos 0))) (i * 4) (pos 0) ≡ getD g 0 (pos 0)
-    e0 =
-        getD-set-other t3 (i * 4 + 3) (i * 4) (getD g 3 (pos 0)) (pos 0) (λ q. absurd (omega arith))
-        ∙ (getD-set-other t2 (i * 4 + 2) (i * 4) (getD g 2 (pos 0)) (pos 0) (λ q. absurd (omega arith)))
-        ∙ (getD-set-other t1 (i * 4 + 1) (i * 4) (getD g 1 (pos 0)) (pos 0) (λ q. absurd (omega arith)))
-        ∙ (getD-set-same t (i * 4) (getD g 0 (pos 0)) (pos 0) (omega arith))
-
-pub row-other : (t : List ℤ) (i j : ℕ) (g : Vector) → j < i → row (putRow t i g) j ≡ row t j
-row-other t i j g l = cc (at 0 (omega arith), at 1 (omega arith), at 2 (omega arith), at 3 (omega arith), zero-more (j * 4))
-  where
-    zero-more : (n : ℕ) → n + 0 ≡ n
-    zero-more n = omega arith
-
-    at : (m : ℕ) → m < 4 → getD (putRow t i g) (j * 4 + m) (pos 0) ≡ getD t (j * 4 + m) (pos 0)
-    at m h = put-other t i g (j * 4 + m) (λ q. absurd (omega arith)) (λ q. absurd (omega arith)) (λ q. absurd (omega arith)) (λ q. absurd (omega arith))
+use lib.IntN.{ℤ, pos}
+use Rattle.integers.specs.Vector.{AllWithin, Vector}
+use lib.ListN.{length, getD, take, set, replicate, length-replicate}
+use lib.Seq.{getD-set-same, getD-set-other}
+use Rattle.integers.specs.Lists.{place, firsts}
+use Rattle.grouping.specs.Grouping.{Frame, sameClass, seeds, classNumber, directions, difference}
+use Rattle.numbering.specs.Tables.{row, rows, putRow}
+use Rattle.grouping.specs.Basis.{Keyed, Grouped, basisFrame, inOneClass, pick, residues, ClassRows}
+use Rattle.numbering.proofs.Rows.{length-heads, head-at, put-other, put-length, put-row, row-other}
+use Rattle.numbering.proofs.Numbering.{place-true, numbers}
+use Rattle.numbering.proofs.Table.{Numbered, numbered-start, numbered-more, number-most, numbered-number, numbered-at}
 
 -- ---- the invariant
 
@@ -204,87 +125,10 @@ module _ (same : Vector → Vector → Bool) (self : (y : Vector) → length y �
 
 -- ---- the end
 
-getD-numbers : (same : Vector → Vector → Bool) (heads xs : List Vector) (j : ℕ) → j < length xs → getD (numbers same heads xs) j 0 ≡ place (same (getD xs j [])) heads
-getD-numbers same heads [] j l = absurd (omega arith)
-getD-numbers same heads (x ∷ xs) zero l = refl
-getD-numbers same heads (x ∷ xs) (suc j) l = getD-numbers same heads xs j (omega arith)
-
 getD-default : (a b : Vector) (xs : List Vector) (i : ℕ) → i < length xs → getD xs i a ≡ getD xs i b
 getD-default a b [] i l = absurd (omega arith)
 getD-default a b (x ∷ xs) zero l = refl
 getD-default a b (x ∷ xs) (suc i) l = getD-default a b xs i (omega arith)
-
--- ---- the numbers so far
-
-pub table-number : (same : Vector → Vector → Bool) (t : List ℤ) (out₀ out : List ℕ) (n : ℕ) → out ≡ numbers same (firsts same (rows t n)) (rows t n) ++ drop n out₀ → (j : ℕ) → j < n
-    → getD out j 0 ≡ place (same (row t j)) (firsts same (rows t n))
-table-number same t out₀ out n e j l =
-    ap (λ (u : List ℕ). getD u j 0) e
-    ∙ getD-before 0 (numbers same (firsts same (rows t n)) (rows t n)) (drop n out₀) j (subst (λ (b : ℕ). j < b) (sym (length-numbers same (firsts same (rows t n)) (rows t n))) inside)
-    ∙ getD-numbers same (firsts same (rows t n)) (rows t n) j inside
-    ∙ ap (λ (v : Vector). place (same v) (firsts same (rows t n))) (getD-rows t n j l)
-  where
-    inside : j < length (rows t n)
-    inside = subst (λ (b : ℕ). j < b) (sym (length-rows t n)) l
-
--- the table has room for them
-pub table-long : (same : Vector → Vector → Bool) (t : List ℤ) (out₀ out : List ℕ) (n : ℕ) → out ≡ numbers same (firsts same (rows t n)) (rows t n) ++ drop n out₀ → n ≤ length out
-table-long same t out₀ out n e =
-    omega (arith, ap (λ (u : List ℕ). length u) e ∙ length-append (numbers same (firsts same (rows t n)) (rows t n)) (drop n out₀), length-numbers same (firsts same (rows t n)) (rows t n), length-rows t n)
-
--- what stands behind is as before
-pub table-rest : (same : Vector → Vector → Bool) (t : List ℤ) (out₀ out : List ℕ) (n : ℕ) → out ≡ numbers same (firsts same (rows t n)) (rows t n) ++ drop n out₀ → drop n out ≡ drop n out₀
-table-rest same t out₀ out n e =
-    ap (drop n) e ∙ ap (λ (m : ℕ). drop m (numbers same (firsts same (rows t n)) (rows t n) ++ drop n out₀)) (sym (length-numbers same (firsts same (rows t n)) (rows t n) ∙ length-rows t n))
-    ∙ drop-append-seam (numbers same (firsts same (rows t n)) (rows t n)) (drop n out₀)
-
-pub numbered-number : (same : Vector → Vector → Bool) (t : List ℤ) (out₀ out heads : List ℕ) (k n : ℕ) → Numbered same t out₀ out heads k n → (j : ℕ) → j < n → getD out j 0 ≡ place (same (row t j)) (firsts same (rows t n))
-numbered-number same t out₀ out heads k n N j l = table-number same t out₀ out n (N .table) j l
-
--- a row stands among the rows
-row-member : (t : List ℤ) (n i : ℕ) → i < n → List·Memᴰ (row t i) (rows t n)
-unfolding rows
-row-member t zero i l = absurd (omega arith)
-row-member t (suc n) i l = pick (NatL.eq-or-lt-of-le (omega arith)) (row-member t n i)
-  where
-    behind : (x : Vector) (xs ys : List Vector) → List·Memᴰ x ys → List·Memᴰ x (xs ++ ys)
-    behind x [] ys m = m
-    behind x (z ∷ xs) ys m = List·Memᴰ·tail (behind x xs ys m)
-
-    before : (x : Vector) (xs ys : List Vector) → List·Memᴰ x xs → List·Memᴰ x (xs ++ ys)
-    before x [] ys m = elim m [ ]
-    before x (z ∷ xs) ys (List·Memᴰ·head e) = List·Memᴰ·head e
-    before x (z ∷ xs) ys (List·Memᴰ·tail m) = List·Memᴰ·tail (before x xs ys m)
-
-    pick : (i ≡ n) ⊎ (i < n) → (i < n → List·Memᴰ (row t i) (rows t n)) → List·Memᴰ (row t i) (rows t n ++ (row t n ∷ []))
-    pick (inl e) m = behind (row t i) (rows t n) (row t n ∷ []) (List·Memᴰ·head (ap (row t) e))
-    pick (inr w) m = before (row t i) (rows t n) (row t n ∷ []) (m w)
-
--- the numbers of the rows, among those before
-pub prefix-place : (same : Vector → Vector → Bool) → ((y : Vector) → length y ≡ 4 → same y y ≡ true) → (t : List ℤ) (n i : ℕ) → i < n → place (same (row t i)) (firsts same (rows t n)) ≡ place (same (row t i)) (firsts same (rows t i))
-unfolding rows
-prefix-place same self t zero i l = absurd (omega arith)
-prefix-place same self t (suc n) i l = pick (NatL.eq-or-lt-of-le (omega arith)) (below-or-not (place (same (row t n)) (firsts same (rows t n))) (length (firsts same (rows t n)))) (prefix-place same self t n i)
-  where
-    at : (j : ℕ) → j ≡ n → length (firsts same (rows t n)) ≤ place (same (row t n)) (firsts same (rows t n)) → place (same (row t j)) (firsts same (rows t n) ++ (row t n ∷ [])) ≡ place (same (row t j)) (firsts same (rows t j))
-    at j e g =
-        subst (λ (m : ℕ). place (same (row t m)) (firsts same (rows t n) ++ (row t n ∷ [])) ≡ place (same (row t m)) (firsts same (rows t m))) (sym e)
-        (place-last (same (row t n)) (firsts same (rows t n)) (row t n) (place-no (same (row t n)) (firsts same (rows t n)) g) (self (row t n) refl) ∙ NatL.le-antisymm g (place-most (same (row t n)) (firsts same (rows t n))))
-
-    pick : (i ≡ n) ⊎ (i < n) → (place (same (row t n)) (firsts same (rows t n)) < length (firsts same (rows t n))) ⊎ (length (firsts same (rows t n)) ≤ place (same (row t n)) (firsts same (rows t n)))
-        → (i < n → place (same (row t i)) (firsts same (rows t n)) ≡ place (same (row t i)) (firsts same (rows t i)))
-        → place (same (row t i)) (firsts same (rows t n ++ (row t n ∷ []))) ≡ place (same (row t i)) (firsts same (rows t i))
-    pick (inl e) (inl s) ih = ap (place (same (row t i))) (firsts-seen same (rows t n) (row t n) s) ∙ ap (λ (m : ℕ). place (same (row t i)) (firsts same (rows t m))) (sym e)
-    pick (inr w) (inl s) ih = ap (place (same (row t i))) (firsts-seen same (rows t n) (row t n) s) ∙ ih w
-    pick (inl e) (inr g) ih = ap (place (same (row t i))) (firsts-new same (rows t n) (row t n) g) ∙ at i e g
-    pick (inr w) (inr g) ih =
-        ap (place (same (row t i))) (firsts-new same (rows t n) (row t n) g)
-        ∙ place-append (same (row t i)) (firsts same (rows t n)) (row t n ∷ []) (firsts-cover same (rows t n) (row t i) (true-T (self (row t i) refl)) (row-member t n i w))
-        ∙ ih w
-
--- among the heads
-pub numbered-at : (same : Vector → Vector → Bool) (t : List ℤ) (out₀ out heads : List ℕ) (k n : ℕ) → Numbered same t out₀ out heads k n → (j : ℕ) → j < n → getD out j 0 ≡ place (same (row t j)) (map (row t) (take k heads))
-numbered-at same t out₀ out heads k n N j l = numbered-number same t out₀ out heads k n N j l ∙ ap (place (same (row t j))) (sym (N .heads-are))
 
 -- the group of an earlier point of the same class and the same coordinates is that of point i
 pub key-copied : (same : Vector → Vector → Bool) (F : Frame) (count : ℕ) (t keys₀ keys : List ℤ) (heads : List ℕ) (k i c b : ℕ) → Keying same F count t keys₀ keys heads k i → b < i
@@ -333,9 +177,6 @@ keying-end P a b c count r t keys₀ keys heads k i n K₀ room e =
     K =
         subst (λ (m : ℕ). Keying (sameClass (basisFrame P count a b c r)) (basisFrame P count a b c r) count t keys₀ keys heads k m) e
         (subst (λ (s : Vector → Vector → Bool). Keying s (basisFrame P count a b c r) count t keys₀ keys heads k i) (size-free P a b c count r) K₀)
-
-pub in-set : (t : List ℤ) (i : ℕ) (x : ℤ) (a : ℕ) → a < length t → a < length (set t i x)
-in-set t i x a l = subst (λ (n : ℕ). a < n) (sym (length-set t i x)) l
 
 -- ---- the residues of the points, written from the front
 

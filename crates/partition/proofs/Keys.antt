@@ -7,9 +7,9 @@ use lib.IntN.{ℤ, pos}
 use lib.ListN.{length}
 use Rattle.integers.specs.Division.{floorDiv}
 use Rattle.integers.specs.Vector.{Vector, minus}
-use Rattle.partition.specs.Projection.{projection}
-use Rattle.partition.specs.Grouping.{coefficients, coordinates, directions, difference, quotients}
-use Rattle.partition.specs.Basis.{pick, Fill, Keyed, basisFrame}
+use Rattle.grouping.specs.Projection.{projection}
+use Rattle.grouping.specs.Grouping.{coefficients, coordinates, directions, difference, quotients}
+use Rattle.grouping.specs.Basis.{pick, Fill, Keyed, basisFrame}
 use Rattle.partition.proofs.ClassFacts.{projection-minus}
 
 floor-nothing : (r : ℕ) → floorDiv (pos 0) (pos r) ≡ pos 0

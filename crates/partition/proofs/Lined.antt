@@ -11,13 +11,14 @@ use Rattle.integers.specs.Lists.{place}
 use Rattle.integers.specs.Ring.{sub-zero→eq}
 use Rattle.integers.specs.Solver.{var, con, _⊖_, _⊗_, ring}
 use Rattle.integers.specs.Vector.{Vector, dots, times, minus, zeros, dots-times, dots-comm, getD-times, length-times, proj-times, proj-self, times-zeros}
-use Rattle.partition.specs.Projection.{projection}
-use Rattle.partition.specs.Grouping.{Frame, isCombination, coefficients, sameClass, difference, directions, coordinates, quotients}
-use Rattle.partition.specs.Basis.{pick, inOneClass, Keyed}
-use Rattle.partition.proofs.Vectors.{comp, comp-minus, comp-projection, same-components}
-use Rattle.partition.proofs.Four.{four-is, length-four-projection}
+use Rattle.grouping.specs.Projection.{projection}
+use Rattle.grouping.specs.Grouping.{Frame, isCombination, coefficients, sameClass, difference, directions, coordinates, quotients}
+use Rattle.grouping.specs.Basis.{pick, inOneClass, Keyed}
+use Rattle.grouping.proofs.Vectors.{comp, comp-minus, comp-projection, same-components}
+use Rattle.numbering.proofs.Rows.{four-is}
+use Rattle.grouping.proofs.Four.{length-four-projection}
 use Rattle.partition.proofs.ClassFacts.{projection-minus}
-use Rattle.partition.proofs.Whole.{whole-yes}
+use Rattle.grouping.proofs.Whole.{whole-yes}
 
 -- ---- multiples by components
 

@@ -2,7 +2,7 @@
 use mathlib.Core.Path.{_≡_, refl, sym, ap, ap₂, _∙_, subst}
 use mathlib.Core.Bool.{Bool, true, false}
 use mathlib.Core.List.{List, [], _∷_, _++_, map}
-use Prim.Native.Nat.{ℕ, zero, suc, _+_, _*_, _<_, _≤_}
+use Prim.Native.Nat.{ℕ, zero, suc, _<_, _≤_}
 use native.Mathlib.Omega.{arith}
 use lib.Dec.{T, ltb}
 use lib.IntN.{ℤ, pos, negsuc, negℤ, natAbs, _+ℤ_, _-ℤ_, _*ℤ_}
@@ -13,17 +13,17 @@ use Rattle.integers.specs.Lists.{clash, true-T, place, firsts}
 use Rattle.integers.specs.Linear.{ints, sizes}
 use Rattle.integers.specs.Solver.{var, con, _⊕_, _⊖_, _⊗_, opp, ring}
 use Rattle.integers.specs.Vector.{Vector, dots, minus, dots-minus, eqV}
-use Rattle.partition.specs.Projection.{projection}
-use Rattle.partition.specs.Grouping.{isCombination, sameClass, difference, directions}
-use Rattle.partition.specs.Basis.{Framed, pick, inOneClass, residueOf, residues, ClassRows}
-use Rattle.partition.specs.Tables.{row, rows}
-use Rattle.partition.proofs.Vectors.{length-minus}
+use Rattle.grouping.specs.Projection.{projection}
+use Rattle.grouping.specs.Grouping.{isCombination, sameClass, difference, directions}
+use Rattle.grouping.specs.Basis.{Framed, pick, inOneClass, residueOf, residues, ClassRows}
+use Rattle.numbering.specs.Tables.{row, rows}
+use Rattle.grouping.proofs.Vectors.{length-minus}
 use Rattle.partition.proofs.ClassFacts.{one-class, class-refl}
-use Rattle.partition.proofs.Equal.{eqV-refl, eqV→eq, equal-self}
-use Rattle.partition.proofs.Inside.{Found, inside-yes, inside-no}
+use Rattle.numbering.proofs.Equal.{eqV-refl, eqV→eq, equal-self}
+use Rattle.grouping.proofs.Inside.{Found, inside-yes, inside-no}
 use Rattle.partition.proofs.KeyNumbers.{bool-same, same-places}
-use Rattle.partition.proofs.KeyTable.{prefix-place, table-number}
-use Rattle.partition.proofs.Located.{fill-1, fill-2, fill-3, to-fill}
+use Rattle.numbering.proofs.Table.{prefix-place, table-number}
+use Rattle.grouping.proofs.Located.{fill-1, fill-2, fill-3, to-fill}
 
 -- ---- one coordinate
 

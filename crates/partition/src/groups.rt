@@ -1,8 +1,5 @@
 // Classes of points and the group of each point (000, algorithm 1, steps 4 and 5).
-use crate::arithmetic::inner;
-use crate::arithmetic::size;
-use crate::lattice::Frame;
-use crate::lattice::locate;
+use grouping::Frame;
 ghost use mathlib.Core.Path.{_≡_};
 ghost use mathlib.Core.Bool.{true};
 ghost use Prim.Native.Nat.{ℕ, _+_, _*_, _<_, _≤_};
@@ -10,9 +7,9 @@ ghost use lib.IntN.{ℤ, natAbs};
 ghost use lib.ListN.{length, getD};
 ghost use Rattle.integers.specs.Lists.{place, firsts};
 ghost use Rattle.integers.specs.Vector.{minus, zeros, AllWithin};
-ghost use Rattle.partition.specs.Tables.{row, rows, putRow};
-ghost use Rattle.partition.specs.Projection.{projection};
-ghost use Rattle.partition.specs.Basis.{Framed, inOneClass, residueOf, residues, ClassRows, Keyed, basisFrame, Grouped};
+ghost use Rattle.numbering.specs.Tables.{row, rows};
+ghost use Rattle.grouping.specs.Projection.{projection};
+ghost use Rattle.grouping.specs.Basis.{Framed, inOneClass, residueOf, residues, ClassRows, Keyed, basisFrame, Grouped};
 
 // The difference of two points of a flat table.
 pub fn difference(points: &[i64], i: usize, h: usize) -> [i64; 4]
@@ -29,13 +26,6 @@ pub fn difference(points: &[i64], i: usize, h: usize) -> [i64; 4]
         points[a + 2] - points[b + 2],
         points[a + 3] - points[b + 3],
     ]
-}
-
-// The place `back` before i; i where there is none.
-pub fn place_before(i: usize, back: usize) -> usize
-    ensures { λ r. ⌜ r ≤ i ⌝ }
-{
-    if back <= i { i - back } else { i }
 }
 
 // Whether two vectors are equal.
@@ -60,21 +50,12 @@ pub fn neighbour(points: &[i64], v: [i64; 4], back: usize, i: usize) -> usize
     ensures { λ r. ⌜ r ≤ i ⌝ }
     ensures { λ r. ⌜ (r < i → minus (row (now (points .entry)) i) (row (now (points .entry)) r) ≡ v) ⌝ }
 {
-    let h = place_before(i, back);
+    let h = numbering::place_before(i, back);
     let e = difference(points, i, h);
     if same_vector(e, v) {
         return h;
     }
     i
-}
-
-// k, and one more if c is k.
-pub fn one_more(c: usize, k: usize) -> usize
-    requires { ⌜ k ≤ 4096 ⌝ }
-    ensures { λ r. ⌜ (c ≡ k → r ≡ k + 1) ⌝ }
-    ensures { λ r. ⌜ ((c ≡ k → ⊥) → r ≡ k) ⌝ }
-{
-    if c == k { k + 1 } else { k }
 }
 
 // The group of point i relative to the first point h of its class: class number, q by division that rounds down, other coordinates.
@@ -89,18 +70,9 @@ pub fn group_key(f: Frame, r: usize, class: usize, points: &[i64], i: usize, h: 
     ensures { λ key. ⌜ AllWithin 1000000000 key ⌝ }
 {
     let e = difference(points, i, h);
-    let g = locate(f, e);
+    let g = grouping::locate(f, e);
     let q = integers::floor_div(g.c1, r as i64);
     [class as i64, q, g.c2, g.c3]
-}
-
-// Row i of a flat table.
-pub fn row_of(t: &[i64], i: usize) -> [i64; 4]
-    requires { ⌜ (i * 4 + 4 ≤ length (now t)) × (i < 4096) ⌝ }
-    ensures { λ r. ⌜ r ≡ row (now (t .entry)) i ⌝ }
-{
-    let a = i * 4;
-    [t[a], t[a + 1], t[a + 2], t[a + 3]]
 }
 
 // What is left of t by division by r, the size of d, that rounds down; t itself for a vector that is not chosen.
@@ -126,11 +98,11 @@ pub fn residues_of(f: Frame, points: &[i64], i: usize) -> [i64; 4]
     let f2 = f.f2;
     let f3 = f.f3;
     let n = f.count;
-    let r = size(f.d);
-    let j = row_of(points, i);
-    let a = residue(inner(f1, j), r, n > 0);
-    let b = residue(inner(f2, j), r, n > 1);
-    let c = residue(inner(f3, j), r, n > 2);
+    let r = integers::size(f.d);
+    let j = numbering::row_of(points, i);
+    let a = residue(grouping::inner(f1, j), r, n > 0);
+    let b = residue(grouping::inner(f2, j), r, n > 1);
+    let c = residue(grouping::inner(f3, j), r, n > 2);
     [a, b, c, 0]
 }
 
@@ -144,7 +116,7 @@ pub fn class_row(f: Frame, points: &[i64], keys: &[i64], b: usize, i: usize) -> 
     ensures { λ r. ⌜ AllWithin 1000000000 r ⌝ }
 {
     if b < i {
-        return row_of(keys, b);
+        return numbering::row_of(keys, b);
     }
     residues_of(f, points, i)
 }
@@ -161,7 +133,7 @@ pub fn class_rows(f: Frame, points: &[i64], v: [i64; 4], back: usize, n: usize, 
     while i < n {
         let b = neighbour(points, v, back, i);
         let g = class_row(f, points, keys, b, i);
-        put_row(keys, i, g);
+        numbering::put_row(keys, i, g);
         i += 1;
     }
 }
@@ -188,22 +160,9 @@ pub fn group_of(
     ensures { λ key. ⌜ AllWithin 1000000000 key ⌝ }
 {
     if b < i {
-        return row_of(keys, b);
+        return numbering::row_of(keys, b);
     }
     group_key(f, r, class, points, i, h)
-}
-
-// Writes row i of a flat table.
-pub fn put_row(keys: &mut [i64], i: usize, g: [i64; 4])
-    requires { ⌜ (i * 4 + 4 ≤ length (now keys)) × (i < 4096) ⌝ }
-    requires { ⌜ AllWithin 1000000000 g ⌝ }
-    ensures { λ r. ⌜ now (keys .exit) ≡ putRow (now (keys .entry)) i g ⌝ }
-{
-    let a = i * 4;
-    keys[a] = g[0];
-    keys[a + 1] = g[1];
-    keys[a + 2] = g[2];
-    keys[a + 3] = g[3];
 }
 
 // The group of each of the n points, as four numbers; answers how many classes there are. `classes` has the number of each point's class. Points that v
@@ -232,10 +191,10 @@ pub fn key_table(
         let b = neighbour(points, v, back, i);
         let c = classes[i] as usize;
         heads[k] = i;
-        k = one_more(c, k);
+        k = numbering::one_more(c, k);
         let h = heads[c];
         let g = group_of(f, r, c, points, keys, b, i, h);
-        put_row(keys, i, g);
+        numbering::put_row(keys, i, g);
         i += 1;
     }
     k

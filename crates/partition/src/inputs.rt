@@ -1,12 +1,6 @@
 // What the partition takes from a loop nest, as rows of four numbers with zeros behind the depth.
-use crate::arithmetic::serves;
-use crate::choice::choose;
-use crate::choice::group_size;
-use crate::choice::grouping_index;
 use crate::groups::difference;
-use crate::groups::put_row;
-use crate::lattice::Frame;
-use crate::lattice::quotient;
+use grouping::Frame;
 use nest::LoopNest;
 ghost use mathlib.Core.Path.{_≡_};
 ghost use mathlib.Core.List.{map};
@@ -18,11 +12,11 @@ ghost use Rattle.integers.specs.Vector.{AllWithin, times, zeros};
 ghost use Rattle.nest.specs.Nest.{part, padded, depthOf, countOf, timeOf, dependencesOf};
 ghost use Rattle.nest.specs.Points.{pointsOf};
 ghost use Rattle.nest.specs.Refusals.{refusal};
-ghost use Rattle.partition.specs.Tables.{rows};
-ghost use Rattle.partition.specs.Periods.{Serves};
-ghost use Rattle.partition.specs.Projection.{projection, groupSize};
-ghost use Rattle.partition.specs.Grouping.{chosenVectors};
-ghost use Rattle.partition.specs.Basis.{pick, Framed};
+ghost use Rattle.numbering.specs.Tables.{rows};
+ghost use Rattle.grouping.specs.Periods.{Serves};
+ghost use Rattle.grouping.specs.Projection.{projection, groupSize};
+ghost use Rattle.grouping.specs.Grouping.{chosenVectors};
+ghost use Rattle.grouping.specs.Basis.{pick, Framed};
 
 // n places of an array, from place `from` on, and zeros behind.
 pub fn four_of(xs: &[i64], from: usize, n: usize) -> [i64; 4]
@@ -45,7 +39,7 @@ pub fn dependence_table(s: LoopNest, n: usize, m: usize) -> [i64; 32]
     let mut t = [0i64; 32];
     for i in 0..m {
         let d = four_of(&dependences, i * LoopNest::MAX_DEPTH, n);
-        put_row(&mut t, i, d);
+        numbering::put_row(&mut t, i, d);
     }
     t
 }
@@ -68,7 +62,7 @@ pub fn size_of(s: LoopNest) -> usize
     let m = nest::to_size(s.count);
     let p = time_vector(s, n);
     let ds = dependence_table(s, n, m);
-    group_size(p, ds, m) as usize
+    grouping::group_size(p, ds, m) as usize
 }
 
 // The frame of an accepted nest whose group size is r.
@@ -81,8 +75,8 @@ pub fn frame_of(s: LoopNest, r: usize) -> Frame
     let m = nest::to_size(s.count);
     let p = time_vector(s, n);
     let ds = dependence_table(s, n, m);
-    let g = grouping_index(p, ds, m, r as i64);
-    choose(p, ds, m, g)
+    let g = grouping::grouping_index(p, ds, m, r as i64);
+    grouping::choose(p, ds, m, g)
 }
 
 // The n index points of an accepted nest, in loop order, into the first rows of a table.
@@ -93,7 +87,7 @@ pub fn fill_points(s: LoopNest, n: usize, points: &mut [i64])
     for k in 0..n {
         let j = nest::point_of(s, k);
         let row = four_of(&j, 0, LoopNest::MAX_DEPTH);
-        put_row(points, k, row);
+        numbering::put_row(points, k, row);
     }
 }
 
@@ -103,10 +97,10 @@ pub fn divided(v: [i64; 4], g: i64) -> [i64; 4]
     ensures { λ r. ⌜ AllWithin 16 r × (times g r ≡ v) ⌝ }
 {
     [
-        quotient(v[0], g),
-        quotient(v[1], g),
-        quotient(v[2], g),
-        quotient(v[3], g),
+        grouping::quotient(v[0], g),
+        grouping::quotient(v[1], g),
+        grouping::quotient(v[2], g),
+        grouping::quotient(v[3], g),
     ]
 }
 
@@ -118,7 +112,7 @@ pub fn shortest(p: [i64; 4]) -> [i64; 4]
     let mut g: usize = 16;
     while g > 1 {
         let d = g as i64;
-        if serves(p, d, 1, 4) {
+        if grouping::serves(p, d, 1, 4) {
             return divided(p, d);
         }
         g -= 1;

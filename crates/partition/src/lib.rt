@@ -1,10 +1,6 @@
 // The partition of a loop nest's iterations into blocks (000, algorithm 1; document 01, "From sheet to plan").
-mod arithmetic;
-mod choice;
 mod groups;
 mod inputs;
-mod lattice;
-mod numbers;
 mod schedule;
 
 use crate::groups::class_rows;
@@ -13,7 +9,6 @@ use crate::inputs::fill_points;
 use crate::inputs::frame_of;
 use crate::inputs::line_of;
 use crate::inputs::size_of;
-use crate::numbers::number_table;
 pub use crate::schedule::steps_into;
 use nest::LoopNest;
 ghost use mathlib.Core.Path.{_≡_};
@@ -41,7 +36,7 @@ pub fn blocks_into(s: LoopNest, n: usize, keys: &mut [i64], blocks: &mut [u16]) 
     let line = line_of(p, &points, n);
     let v = line.vector;
     class_rows(f, &points, v, line.back, n, keys);
-    number_table(keys, line.back, n, blocks);
+    numbering::number_table(keys, line.back, n, blocks);
     key_table(f, r, &points, v, line.back, blocks, n, keys);
-    number_table(keys, line.back, n, blocks)
+    numbering::number_table(keys, line.back, n, blocks)
 }

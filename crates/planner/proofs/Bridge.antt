@@ -13,10 +13,10 @@ use Rattle.nest.specs.Nest.{padded, timeOf, dependencesOf, countOf, maxDepth, m
 use Rattle.nest.specs.Points.{pointsOf}
 use Rattle.nest.specs.Refusals.{refusal}
 use Rattle.nest.proofs.Accepted.{depth-is}
-use Rattle.partition.specs.Grouping.{Group, chosenCount}
+use Rattle.grouping.specs.Grouping.{Group, chosenCount}
 use Rattle.partition.specs.Partition.{groupsOf, stepCount, blockCount}
-use Rattle.partition.specs.Basis.{pick, Fill}
-use Rattle.partition.specs.Tables.{row}
+use Rattle.grouping.specs.Basis.{pick, Fill}
+use Rattle.numbering.specs.Tables.{row}
 use Rattle.partition.specs.GroupRows.{noGroup, GroupRow, GroupTable}
 use Rattle.partition.proofs.Theorems.{chosen-bound}
 use Rattle.mapping.specs.Mapping.{inOrder, processorsOf, processorCount, isMessage, total, messageCount}

@@ -15,7 +15,7 @@ use Rattle.nest.specs.Points.{pointsOf}
 use Rattle.nest.specs.Refusals.{refusal}
 use Rattle.nest.proofs.Accepted.{few-points, count-is}
 use Rattle.nest_text.specs.Text.{line}
-use Rattle.partition.specs.Grouping.{eqG, blocks}
+use Rattle.grouping.specs.Grouping.{eqG, blocks}
 use Rattle.partition.specs.Partition.{stepsOf, stepCount, groupsOf, blocksOf, blockCount}
 use Rattle.partition.proofs.Theorems.{step-few, steps-few, block-below}
 use Rattle.mapping.specs.Mapping.{processorsOf, processorCount, isMessage, messageCount}

@@ -22,10 +22,11 @@ use Rattle.nest_text.specs.Fields.{Bytes, blanksOf, allDigits, valueOf, digitsO
 use Rattle.nest_text.specs.Text.{line, linesOf, isLine, numbersOf, areLines, lineNumbers, widths, headed, nestFrom, headerOf, widthsOf, bodyOf, readRefusal, readNest}
 use Rattle.nest_text.specs.Text as T
 use Rattle.nest_text.specs.Examples.{bytes, lines}
-use Rattle.partition.specs.Projection.{projection, divides, makesWhole, multiplier, groupSize, leastZ, step}
-use Rattle.partition.specs.Grouping.{pivot, clear, remainder, mayGroup, groupingVector, extend, chosenVectors, chosenCount, latest, coefficients, left, isCombination, frame, directions, difference, sameClass, coordinates, seeds, eqG, quotients, classNumber, group, blocks, blockNumber}
-use Rattle.partition.specs.Partition.{stepsOf, stepCount, frameOf, groupsOf, blocksOf, blockCount}
-use Rattle.mapping.specs.Mapping.{inOrder, greatestZ, direction, undealt, takesBit, withBit, noDirection, nextTurn, dealBit, dealBits, dealt, gray, partOf, joined, processor, directionsOf, processorsOf, processorCount, crosses, isMessage, total, messageCount}
+use Rattle.grouping.specs.Projection.{projection, divides, makesWhole, multiplier, groupSize}
+use Rattle.integers.specs.Extremes.{leastZ, greatestZ}
+use Rattle.partition.specs.Partition.{step, stepsOf, stepCount, frameOf, groupsOf, blocksOf, blockCount}
+use Rattle.grouping.specs.Grouping.{pivot, clear, remainder, mayGroup, groupingVector, extend, chosenVectors, chosenCount, latest, coefficients, left, isCombination, frame, directions, difference, sameClass, coordinates, seeds, eqG, quotients, classNumber, group, blocks, blockNumber}
+use Rattle.mapping.specs.Mapping.{inOrder, direction, undealt, takesBit, withBit, noDirection, nextTurn, dealBit, dealBits, dealt, gray, partOf, joined, processor, directionsOf, processorsOf, processorCount, crosses, isMessage, total, messageCount}
 use Rattle.sequential.specs.Sequential.{sourceValue, valueOf as madeOf, loop, sequential, sum, weightedSum, ruleOf, valuesOf}
 use Rattle.planner.specs.Plan.{countsOf}
 use Rattle.planner.specs.Rows.{rowOf}

@@ -9,10 +9,9 @@ use mir.Syntax.{w64}
 use mir.Val.{toZ}
 use Rattle.integers.specs.Bounds.{told}
 use Rattle.integers.specs.Lists.{tab}
-use Rattle.partition.specs.Periods.{maxZ}
-use Rattle.mapping.specs.Mapping.{greatestZ}
+use Rattle.integers.specs.Extremes.{maxZ, greatestZ}
 use Rattle.mapping.specs.Keys.{keyAt, column}
-use Rattle.mapping.proofs.Extremes.{greatest-tab-one, greatest-tab-more}
+use Rattle.integers.proofs.Extremes.{greatest-tab-one, greatest-tab-more}
 use Rattle.mapping.proofs.greatest_in.Statement.{statement}
 use Rattle.mapping.proofs.greatest_in.Tie as tie
 

@@ -9,9 +9,9 @@ use mir.Syntax.{w64}
 use mir.Val.{toZ}
 use Rattle.integers.specs.Bounds.{told}
 use Rattle.integers.specs.Lists.{tab}
-use Rattle.partition.specs.Projection.{leastZ}
-use Rattle.mapping.specs.Keys.{keyAt, column, lesserZ}
-use Rattle.mapping.proofs.Extremes.{least-tab-one, least-tab-more}
+use Rattle.integers.specs.Extremes.{leastZ, lesserZ}
+use Rattle.mapping.specs.Keys.{keyAt, column}
+use Rattle.integers.proofs.Extremes.{least-tab-one, least-tab-more}
 use Rattle.mapping.proofs.least_in.Statement.{statement}
 use Rattle.mapping.proofs.least_in.Tie as tie
 

@@ -7,8 +7,7 @@ use lib.IntN.{ℤ, _-ℤ_}
 use Rattle.integers.specs.Bounds.{told}
 use Rattle.integers.specs.Machine.{reads}
 use Rattle.nest.specs.Nest.{toℕ}
-use Rattle.partition.specs.Projection.{leastZ}
-use Rattle.mapping.specs.Mapping.{greatestZ}
+use Rattle.integers.specs.Extremes.{leastZ, greatestZ}
 use Rattle.mapping.specs.Keys.{column}
 use Rattle.mapping.proofs.Rows.{least-size, greatest-size, in-order, height-most, width-is}
 use Rattle.mapping.proofs.width_in.Statement.{statement}

@@ -8,10 +8,11 @@ use lib.ListN.{drop}
 use Rattle.nest.proofs.Accepted.{few-points, some-points}
 use Rattle.integers.specs.Lists.{place, firsts}
 use Rattle.integers.specs.Vector.{eqV}
-use Rattle.partition.specs.Basis.{basisFrame}
-use Rattle.partition.specs.Tables.{rows}
+use Rattle.grouping.specs.Basis.{basisFrame}
+use Rattle.numbering.specs.Tables.{rows}
 use Rattle.partition.proofs.Answers.{table-is, blocks-are, count-is}
-use Rattle.partition.proofs.KeyTable.{table-long, table-rest, grouped-after}
+use Rattle.numbering.proofs.Table.{table-long, table-rest}
+use Rattle.partition.proofs.KeyTable.{grouped-after}
 use Rattle.partition.proofs.NestVectors.{zeros-within}
 use Rattle.partition.proofs.Residues.{class-numbers}
 use Rattle.partition.proofs.blocks_into.Statement.{statement}

@@ -4,8 +4,8 @@ use Prim.Native.Nat.{ℕ, _≤_, _<_, _-_, _+_, _*_}
 use native.Mathlib.Omega.{arith}
 use lib.ListN.{length}
 use Rattle.integers.specs.Vector.{minus}
-use Rattle.partition.specs.Basis.{residues, ClassRows}
-use Rattle.partition.specs.Tables.{row}
+use Rattle.grouping.specs.Basis.{residues, ClassRows}
+use Rattle.numbering.specs.Tables.{row}
 use Rattle.partition.proofs.KeyTable.{class-rows-start, class-rows-more}
 use Rattle.partition.proofs.Lined.{one-line}
 use Rattle.partition.proofs.Residues.{line-residues}

@@ -7,15 +7,15 @@ use lib.IntN.{ℤ, pos}
 use mir.Syntax.{w64}
 use mir.Val.{toZ, ofZ}
 use Rattle.integers.specs.Vector.{AllWithin, minus}
-use Rattle.partition.specs.Basis.{pick}
-use Rattle.partition.specs.Tables.{row}
+use Rattle.grouping.specs.Basis.{pick}
+use Rattle.numbering.specs.Tables.{row}
 use mir.Facts.{toZ-pos}
 use native.Mathlib.Nat.{le-trans}
 use Rattle.integers.specs.Bounds.{told, back}
 use Rattle.integers.specs.Division as Div
 use Rattle.integers.specs.Linear.{ints}
-use Rattle.partition.specs.Projection.{projection}
-use Rattle.partition.specs.Grouping.{isCombination, coefficients}
+use Rattle.grouping.specs.Projection.{projection}
+use Rattle.grouping.specs.Grouping.{isCombination, coefficients}
 use Rattle.partition.proofs.ClassFacts.{minus-within, one-class}
 use Rattle.partition.proofs.Keys.{keyed}
 use borrow.Author.Needs.{needs}

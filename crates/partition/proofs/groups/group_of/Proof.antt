@@ -1,8 +1,8 @@
 -- `group_of` answers what `group_key` does.
 use mathlib.Core.Path.{sym, subst}
 use Rattle.integers.specs.Vector.{AllWithin}
-use Rattle.partition.specs.Basis.{Keyed, basisFrame}
-use Rattle.partition.specs.Tables.{row}
+use Rattle.grouping.specs.Basis.{Keyed, basisFrame}
+use Rattle.numbering.specs.Tables.{row}
 use borrow.Author.Needs.{needs}
 use Rattle.partition.proofs.groups.group_of.Statement.{statement}
 use Rattle.partition.proofs.groups.group_of.Tie as tie

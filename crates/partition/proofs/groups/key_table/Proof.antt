@@ -8,10 +8,10 @@ use lib.ListN.{length, getD, take, set, length-set}
 use lib.IntN.{ℤ}
 use Rattle.integers.specs.Lists.{place}
 use Rattle.integers.specs.Vector.{Vector, minus}
-use Rattle.partition.specs.Basis.{inOneClass, basisFrame, Keyed}
-use Rattle.partition.specs.Grouping.{Frame}
-use Rattle.partition.specs.Projection.{projection}
-use Rattle.partition.specs.Tables.{row}
+use Rattle.grouping.specs.Basis.{inOneClass, basisFrame, Keyed}
+use Rattle.grouping.specs.Grouping.{Frame}
+use Rattle.grouping.specs.Projection.{projection}
+use Rattle.numbering.specs.Tables.{row}
 use Rattle.partition.proofs.ClassFacts.{class-refl}
 use Rattle.partition.proofs.KeyTable.{Keying, keying-start, keying-more, keying-end, key-copied, key-most, head-low, head-same}
 use Rattle.partition.proofs.Lined.{one-line, line-place, line-keyed}

@@ -11,11 +11,11 @@ use lib.Signed.{mag}
 use Rattle.integers.specs.Bounds.{told, back}
 use Rattle.integers.specs.Machine.{reads}
 use Rattle.integers.specs.Vector.{Vector, AllWithin, all-wider, dots}
-use Rattle.partition.specs.Basis.{residueOf}
-use Rattle.partition.specs.Tables.{row}
-use Rattle.partition.proofs.Four.{dot-within}
-use Rattle.partition.proofs.Listed.{row-within}
-use Rattle.partition.proofs.Located.{within-1, within-2, within-3, length-1, length-2, length-3, determinant-within}
+use Rattle.grouping.specs.Basis.{residueOf}
+use Rattle.numbering.specs.Tables.{row}
+use Rattle.grouping.proofs.Four.{dot-within}
+use Rattle.numbering.proofs.Rows.{row-within}
+use Rattle.grouping.proofs.Located.{within-1, within-2, within-3, length-1, length-2, length-3, determinant-within}
 use Rattle.partition.proofs.Residues.{size-some}
 use borrow.Author.Needs.{needs}
 use Rattle.partition.proofs.groups.residues_of.Statement.{statement}

@@ -10,7 +10,7 @@ use mir.Syntax.{w64}
 use mir.Val.{ofZ, SFits}
 use Rattle.integers.specs.Lists.{clash}
 use Rattle.integers.specs.Tests.{same}
-use Rattle.partition.proofs.Four.{four, four-is}
+use Rattle.numbering.proofs.Rows.{four, four-is}
 use borrow.Author.Needs.{needs}
 use Rattle.partition.proofs.groups.same_vector.Statement.{statement}
 use Rattle.partition.proofs.groups.same_vector.Tie as tie

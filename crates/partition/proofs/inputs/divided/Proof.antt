@@ -12,9 +12,9 @@ use mir.Facts.{toZ-ofZ}
 use Rattle.integers.specs.Bounds.{told}
 use Rattle.integers.specs.Linear.{ints}
 use Rattle.integers.specs.Machine.{reads}
-use Rattle.partition.proofs.Sizes.{element, element-within}
+use Rattle.grouping.proofs.Sizes.{element, element-within}
 use Rattle.partition.proofs.Lined.{part-is, times-four}
-use Rattle.partition.proofs.Whole.{quot-size}
+use Rattle.grouping.proofs.Whole.{quot-size}
 use Rattle.partition.proofs.inputs.divided.Statement.{statement}
 use Rattle.partition.proofs.inputs.divided.Tie as tie
 

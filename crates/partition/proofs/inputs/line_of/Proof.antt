@@ -8,7 +8,7 @@ use Rattle.integers.specs.Linear.{dif}
 use Rattle.integers.specs.Machine.{reads, fits}
 use Rattle.integers.specs.Solver.{var, con, _⊖_}
 use Rattle.integers.specs.Tests.{signed}
-use Rattle.partition.specs.Projection.{projection}
+use Rattle.grouping.specs.Projection.{projection}
 use Rattle.partition.proofs.Lined.{opposite-along}
 use borrow.Author.Needs.{needs}
 use Rattle.partition.proofs.inputs.line_of.Statement.{statement}

@@ -14,7 +14,7 @@ use Rattle.integers.specs.Vector.{dots}
 use Rattle.nest.specs.Nest.{padded, timeOf, maxDepth}
 use Rattle.nest.specs.Points.{pointsOf}
 use Rattle.nest.proofs.Accepted.{some-points, few-points}
-use Rattle.partition.specs.Projection.{leastZ}
+use Rattle.integers.specs.Extremes.{lesserZ, leastZ}
 use Rattle.partition.proofs.Products.{time-small, row-small, row-product, row-few}
 use Rattle.partition.proofs.StepLaws.{least-first, least-more, lesser-size}
 use Rattle.partition.proofs.schedule.least_product.Statement.{statement}
@@ -78,8 +78,8 @@ product-of-requires-2 c κs =
     let k = c .before .before .loop .k in
     (time-small (a .s) (d .pre .0) k (below c) (a .p) (c .next-point .result) (d .pre .1) (next-is c), row-small (a .s) (d .pre .0) k (below c) (a .p) (c .next-point .result) (d .pre .1) (next-is c))
 
-smaller-requires : tie.Need-smaller-requires Inv-loop μ-loop
-smaller-requires c κs = search needs
+lesser-requires : tie.Need-lesser-requires Inv-loop μ-loop
+lesser-requires c κs = search needs
 
 add-k : tie.Need-add-k Inv-loop μ-loop
 add-k c = let d = c .before .before .before .before .before .before .before in omega (arith, c .before .before .before .loop-test .taken, d .pre .2, few-points (d .args .s) (d .pre .0))
@@ -98,12 +98,12 @@ loop-again c =
     let product = c .before .product-of2 in
     let x = told (product .result) (product .ok) ∙ product .ensures in
     let v = row-product (a .s) (d .pre .0) (l .k) (below q) (a .p) (q .next-point .result) (d .pre .1) (next-is q) in
-    let e = told (c .smaller .result) (c .smaller .ok) ∙ c .smaller .ensures in
+    let e = told (c .lesser .result) (c .lesser .ok) ∙ c .lesser .ensures in
     let i : l .k + 1 - 1 ≡ l .k = omega arith in (
       omega arith,
       omega (arith, q .before .loop-test .taken),
-      e ∙ ap₂ (λ (y z : ℤ). leastZ (y ∷ z ∷ [])) (x ∙ v) (l .inv .2) ∙ sym (least-more f ps (l .k) (omega (arith, l .inv .0)) (below q)),
-      subst (λ (z : ℤ). natAbs z ≤ 64000) (sym e) (lesser-size _ _ 64000 (subst (λ (z : ℤ). natAbs z ≤ 64000) (sym x) (row-few (a .s) (d .pre .0) (l .k) (below q) (a .p) (q .next-point .result) (d .pre .1) (next-is q))) (l .inv .3)),
+      e ∙ ap₂ lesserZ (l .inv .2) (x ∙ v) ∙ sym (least-more f ps (l .k) (omega (arith, l .inv .0)) (below q)),
+      subst (λ (z : ℤ). natAbs z ≤ 64000) (sym e) (lesser-size _ _ 64000 (l .inv .3) (subst (λ (z : ℤ). natAbs z ≤ 64000) (sym x) (row-few (a .s) (d .pre .0) (l .k) (below q) (a .p) (q .next-point .result) (d .pre .1) (next-is q)))),
       next-is q ∙ ap (λ j. padded maxDepth (getD ps j [])) (sym i),
     )
 
@@ -126,7 +126,7 @@ least-product-spec =
     loop-holds
     next-point-requires
     product-of-requires-2
-    smaller-requires
+    lesser-requires
     add-k
     loop-less
     loop-again

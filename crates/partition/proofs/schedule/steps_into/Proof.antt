@@ -14,8 +14,9 @@ use Rattle.integers.specs.Vector.{dots}
 use Rattle.nest.specs.Nest.{toℕ, part, padded, timeOf, maxDepth}
 use Rattle.nest.specs.Points.{pointsOf}
 use Rattle.nest.proofs.Accepted.{few-points, some-points}
-use Rattle.partition.specs.Projection.{leastZ, step}
-use Rattle.partition.proofs.ListFacts.{getD-mem}
+use Rattle.integers.specs.Extremes.{leastZ}
+use Rattle.partition.specs.Partition.{step}
+use Rattle.integers.proofs.ListFacts.{getD-mem}
 use Rattle.partition.proofs.Products.{time-small, row-small, row-product, row-few}
 use Rattle.partition.proofs.Steps.{least-below}
 use Rattle.partition.proofs.StepLaws.{stepAt, Stepped, stepped-start, stepped-length, stepped-more, stepped-end}

@@ -1,0 +1,24 @@
+-- `partition::third_chosen` meets its contract. Assumes nothing.
+use mathlib.Core.Path.{refl, _∙_}
+use native.Mathlib.Omega.{arith}
+use lib.Dec.{lit≤}
+use Rattle.integers.specs.Vector.{all-wider, dots}
+use Rattle.grouping.proofs.Located.{within-3}
+use Rattle.grouping.proofs.Exchange.{taken-23, left-out, not-zero, is-zero, fill-2, same-pick}
+use Rattle.grouping.proofs.lattice.third_chosen.Statement.{statement}
+use Rattle.grouping.proofs.lattice.third_chosen.Tie as tie
+
+inner-requires : tie.Need-inner-requires
+inner-requires c κs = let d = c .before .before .before .before in (within-3 (d .pre .0), all-wider 16 30000 (d .args .w) (lit≤ tt) (d .pre .1 .1))
+
+framed-requires : tie.Need-framed-requires
+framed-requires c κs = let d = c .before .before .before .before .before .before in taken-23 (d .pre .0) (d .pre .1 .0) (d .args .w) (omega arith) (d .pre .1 .1) (not-zero (c .before .inner .result) _ (c .before .inner .ensures) (c .if1 .taken)) .ready
+
+returns : tie.Need-returns
+returns c = let d = c .before .before .before .before .before .before .before in let x = c .framed .ensures in (x .0, (x .1 .0, same-pick (x .1 .1) (x .1 .2) (x .1 .3) (x .1 .4) ∙ taken-23 (d .pre .0) (d .pre .1 .0) (d .args .w) (omega arith) (d .pre .1 .1) (not-zero (c .before .before .inner .result) _ (c .before .before .inner .ensures) (c .before .if1 .taken)) .is))
+
+returns-2 : tie.Need-returns-2
+returns-2 c = let d = c .before .before .before .before .before .before in (d .pre .0, (refl, left-out (d .pre .0) (d .args .w) (omega arith) (fill-2 (d .args .f .count) (dots (d .args .f .f1) (d .args .w)) (dots (d .args .f .f2) (d .args .w)) (dots (d .args .f .f3) (d .args .w)) (d .pre .1 .0) (is-zero (c .before .inner .result) _ (c .before .inner .ensures) (c .before .inner .ok) (c .if1 .left)))))
+
+pub third-chosen-spec : {M : Type 1} → statement M
+third-chosen-spec = tie.close (tie.spec inner-requires framed-requires returns returns-2)
