@@ -1,21 +1,19 @@
 -- The whole text: each way out of the reader.
 use mathlib.Core.Path.{_≡_, refl, sym, ap, subst, _∙_}
 use mathlib.Core.Bool.{Bool, true, false}
-use mathlib.Core.List.{List, [], _∷_, flatMap}
+use mathlib.Core.List.{List, [], flatMap}
 use Prim.Native.Nat.{ℕ, zero, suc, _+_, _*_, _-_, _≤_}
 use native.Mathlib.Omega.{arith}
 use borrow.Author.Tests.{ne-eqb}
-use lib.IntN.{ℤ, pos, negsuc}
+use lib.IntN.{ℤ, pos}
 use lib.ListN.{length, take, drop}
 use lib.Seq.{take-nil, drop-nil}
-use lib.Signed.{_≤ℤ_}
-use Rattle.integers.specs.Linear.{ints}
 use Rattle.nest.specs.declared.LoopNest.{LoopNest}
-use Rattle.nest.specs.Nest.{toℕ, depthOf, countOf, padded, emptyNest, maxDepth, maxDependences}
-use Rattle.nest.specs.Refusals.{badDepth, badCount, badCube, holds, firstMet, headerOrder, bodyOrder, orElse, refusal}
+use Rattle.nest.specs.Nest.{depthOf, countOf, padded, emptyNest}
+use Rattle.nest.specs.Refusals.{holds, firstMet, headerOrder, bodyOrder, orElse, refusal}
 use Rattle.nest.proofs.Entries.{orElse-first, orElse-second, orElse-zero}
-use Rattle.nest.proofs.Conditions.{in-span}
-use Rattle.nest.proofs.FirstMet.{none-met, second-part}
+use Rattle.nest.proofs.FirstMet.{behind-header}
+use Rattle.nest.proofs.Spans.{HeaderSpans, header-spans}
 use Rattle.nest_text.specs.declared.Reading.{Reading}
 use Rattle.nest_text.specs.declared.reader.Line.{Line}
 use Rattle.nest_text.specs.declared.reader.Body.{Body}
@@ -93,29 +91,6 @@ pub same-shape : (s t : LoopNest) → s .depth ≡ t .depth → s .count ≡ t .
 unfolding firstMet holds
 same-shape s t p q r = λ i. firstMet (shaped s (p i) (q i) (r i)) headerOrder
 
--- a shape that passes them
-pub record Fit (s : LoopNest) : Type 0 where
-  pub depth-is : s .depth ≡ pos (depthOf s)
-  pub depth-most : depthOf s ≤ maxDepth
-  pub count-is : s .count ≡ pos (countOf s)
-  pub count-most : countOf s ≤ maxDependences
-
--- a number from 1 to k as a natural number
-size-of : (k : ℕ) (z : ℤ) → (pos 1 ≤ℤ z) × (z ≤ℤ pos k) → (z ≡ pos (toℕ z)) × (toℕ z ≤ k)
-unfolding toℕ
-size-of k (pos n) h = (refl, omega ints)
-size-of k (negsuc n) h = absurd (omega ints)
-
--- a nest that passes has a shape in span
-fit : (s : LoopNest) → firstMet s headerOrder ≡ 0 → Fit s
-unfolding holds
-fit s e =
-    let a = none-met s badDepth (badCount ∷ badCube ∷ []) e in
-    let b = none-met s badCount (badCube ∷ []) (a .1) in
-    let n = size-of maxDepth (s .depth) (in-span (pos 1) (pos maxDepth) (s .depth) (a .0)) in
-    let m = size-of maxDependences (s .count) (in-span (pos 1) (pos maxDependences) (s .count) (b .0)) in
-    record { depth-is = n .0; depth-most = n .1; count-is = m .0; count-most = m .1 }
-
 -- a nest with line 1's numbers gives both answers for line 1
 pub record Headed (bs : Bytes) (h : LoopNest) : Type 0 where
   pub refused-with : (r : ℕ) → r ≡ firstMet h headerOrder → (r ≡ 0 → ⊥) → refusedAs r ≡ headerRead bs
@@ -133,7 +108,7 @@ body-behind bs h b n m p q e = e ∙ (rw (p, q, rest-part bs (columns * headerWi
 -- what is known once line 1 has passed: there is a rest, and each answer for it
 pub record Passed (bs : Bytes) (h : LoopNest) : Type 0 where
   pub room : columns * headerWidth + 1 ≤ length bs
-  pub fits : Fit h
+  pub fits : HeaderSpans h
   pub start : h ≡ filled (depthOf h) (countOf h) (h .cube) []
   pub malformed : (b : Body) → BodyOf bs h b → b .ok ≡ false → refusedAs 1 ≡ readingOf bs
   pub refused-with : (b : Body) → BodyOf bs h b → b .ok ≡ true → (r : ℕ) → r ≡ refusal (b .nest) → (r ≡ 0 → ⊥) → refusedAs r ≡ readingOf bs
@@ -225,8 +200,8 @@ module _ (bs : Bytes) where
     header-fits = sym (header-checked header-form) ∙ none
 
     -- its shape is in span
-    fitting : Fit (headerOf bs)
-    fitting = fit (headerOf bs) header-fits
+    fitting : HeaderSpans (headerOf bs)
+    fitting = header-spans (headerOf bs) header-fits
 
     -- the number of loops
     abbrev n : ℕ
@@ -243,7 +218,7 @@ module _ (bs : Bytes) where
     -- the nest that is read, by its filling
     body-filled : bodyOf bs ≡ filled n m c (lineNumbers (widths n m) (behind headerWidth bs))
     unfolding bodyOf widthsOf
-    body-filled = sym (filled-nest n m c (behind headerWidth bs) (fitting .depth-most) (fitting .count-most))
+    body-filled = sym (filled-nest n m c (behind headerWidth bs) (fitting .depth-few) (fitting .count-few))
 
     -- it has line 1's shape, so the refusals of line 1 are not met
     pub shape-kept : firstMet (bodyOf bs) headerOrder ≡ 0
@@ -256,8 +231,7 @@ module _ (bs : Bytes) where
 
     -- the check of the whole nest gives 5 to 13
     body-checked : refusal (bodyOf bs) ≡ firstMet (bodyOf bs) bodyOrder
-    unfolding refusal
-    body-checked = second-part (bodyOf bs) headerOrder bodyOrder shape-kept
+    body-checked = behind-header (bodyOf bs) shape-kept
 
     -- only the rest can be refused
     rest-refusal : readRefusal bs ≡ bodyRefusal

@@ -68,7 +68,7 @@ read-body-requires c κs =
     let p = passed (d .before .before .before .before .before) in
     let n = depth-is d in
     let m = count-is d in
-    (rw n (p .fits .depth-most), rw m (p .fits .count-most), rw (n, m) (p .start))
+    (rw n (p .fits .depth-few), rw m (p .fits .count-few), rw (n, m) (p .start))
 
 refused-requires : tie.Need-refused-requires
 refused-requires c κs = search needs
