@@ -84,7 +84,7 @@ fits-columns s e zs m z n =
     (leZ-yes (true-T (b .0)), leZ-yes (true-T (b .1)), field-length z c)
 
 -- an accepted text is read as what its lines say
-pub read-is : (bs : Bytes) → readRefusal bs ≡ 0 → readNest bs ≡ bodyOf bs
+read-is : (bs : Bytes) → readRefusal bs ≡ 0 → readNest bs ≡ bodyOf bs
 read-is bs e = sym (ap (λ (x : Reading). x .nest) (whole-passed bs e))
 
 -- ---- what was written is read
@@ -129,7 +129,7 @@ text-read s h =
     }
 
 -- a line 1 with these numbers meets the conditions that the nest meets
-pub shape-same : (s : LoopNest) → firstMet (headed (shapeLine s)) headerOrder ≡ firstMet s headerOrder
+shape-same : (s : LoopNest) → firstMet (headed (shapeLine s)) headerOrder ≡ firstMet s headerOrder
 unfolding headed
 shape-same s = same-shape (headed (shapeLine s)) s refl refl refl
 
