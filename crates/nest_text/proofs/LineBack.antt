@@ -1,4 +1,4 @@
--- Lines that were written are read back as their numbers, and lines that were read are written again as they stood.
+-- Lines that were written are read back as their numbers, and lines that were read are written again as they stood; the tests of lines are the document's words.
 -- Assumes nothing.
 use mathlib.Core.Path.{_≡_, refl, sym, ap, ap₂, subst, _∙_}
 use mathlib.Core.Bool.{Bool, true, false, not, _&&_}
@@ -19,12 +19,20 @@ use Rattle.nest_text.specs.declared.fields.Field.the-variants.{Number, M
 use Rattle.nest_text.specs.Fields.{Bytes, newline, fieldOf, readOf}
 use Rattle.nest_text.specs.Text.{line, isMalformed, numberOf, fieldAt, isLine, numbersOf, behind, areLines, lineNumbers}
 use Rattle.nest_text.specs.Stored.{InColumns}
-use Rattle.nest_text.specs.Form.{AllInColumns, LinesInColumns, Begins, Consists}
+use Rattle.nest_text.specs.Form.{Begins, Consists}
 use Rattle.nest_text.proofs.FieldBack.{read-written}
-use Rattle.nest_text.proofs.Numerals.{field-iff}
-use Rattle.nest_text.proofs.WriteLaws.{field-length}
+use Rattle.nest_text.proofs.Numerals.{field-iff, field-words}
+use Rattle.nest_text.proofs.WriteLaws.{field-length, line-cons}
 
 -- ---- numbers that six columns hold
+abbrev pub AllInColumns : List ℤ → Type 0
+AllInColumns [] = Unit {0}
+AllInColumns (z ∷ zs) = InColumns z × AllInColumns zs
+
+-- the same of each line
+abbrev pub LinesInColumns : List (List ℤ) → Type 0
+LinesInColumns [] = Unit {0}
+LinesInColumns (l ∷ ls) = AllInColumns l × LinesInColumns ls
 
 -- numbers behind numbers
 all-append : (xs ys : List ℤ) → AllInColumns xs → AllInColumns ys → AllInColumns (xs ++ ys)
@@ -130,7 +138,7 @@ reaches : (bs : Bytes) (n b : ℕ) → 0 < b → getD bs n 0 ≡ b → n < lengt
 reaches bs n b h e = split (ltb n (length bs)) (λ t. ltb-true n (length bs) t) (λ f. let d = List·getD-eq-default bs 0 {n = n} (ltb-false n (length bs) f) in absurd (omega arith))
 
 -- a line that was read begins the bytes
-pub line-again : (k : ℕ) (bs : Bytes) → isLine k bs ≡ true → Begins bs (numbersOf k bs) (behind k bs)
+pub line-again : (k : ℕ) (bs : Bytes) → isLine k bs ≡ true → AllInColumns (numbersOf k bs) × (bs ≡ line (numbersOf k bs) ++ behind k bs)
 unfolding line isLine numbersOf
 line-again k bs h =
     let a = and-true (not (any isMalformed (tab (fieldAt bs) k))) (eqb (getD bs (6 * k) 0) newline) h in
@@ -155,13 +163,13 @@ none-left [] e = refl
 none-left (b ∷ bs) e = absurd (omega (arith, eqb-true (suc (length bs)) 0 e))
 
 -- lines that were read are the bytes
-pub lines-again : (ks : List ℕ) (bs : Bytes) → areLines ks bs ≡ true → Consists bs (lineNumbers ks bs)
+pub lines-again : (ks : List ℕ) (bs : Bytes) → areLines ks bs ≡ true → LinesInColumns (lineNumbers ks bs) × (bs ≡ flatMap line (lineNumbers ks bs))
 unfolding areLines lineNumbers flatMap
 lines-again [] bs h = (tt, none-left bs h)
 lines-again (k ∷ ks) bs h = go (isLine k bs) refl h (lines-again ks (behind k bs))
   where
     go : (b : Bool) → isLine k bs ≡ b → _≡_ {A = Bool} (elim b as (λ _. Bool) [ true ↦ areLines ks (behind k bs) | false ↦ false ]) true
-        → (areLines ks (behind k bs) ≡ true → Consists (behind k bs) (lineNumbers ks (behind k bs)))
+        → (areLines ks (behind k bs) ≡ true → LinesInColumns (lineNumbers ks (behind k bs)) × (behind k bs ≡ flatMap line (lineNumbers ks (behind k bs))))
         → (AllInColumns (numbersOf k bs) × LinesInColumns (lineNumbers ks (behind k bs))) × (bs ≡ line (numbersOf k bs) ++ flatMap line (lineNumbers ks (behind k bs)))
     go true q h ih =
         let first = line-again k bs q in
@@ -175,23 +183,66 @@ unfolding lineNumbers
 lines-widths [] bs = refl
 lines-widths (k ∷ ks) bs = ap₂ (λ (a : ℕ) (l : List ℕ). a ∷ l) (numbers-length k bs) (lines-widths ks (behind k bs))
 
+-- ---- lines in words
+
+-- a line's first field before the others
+line-first : (z : ℤ) (zs : List ℤ) (rest : Bytes) → line (z ∷ zs) ++ rest ≡ fieldOf z ++ (line zs ++ rest)
+line-first z zs rest = ap (λ l. l ++ rest) (sym (line-cons z zs)) ∙ append-assoc (fieldOf z) (line zs) rest
+
+-- columns that say numbers are the fields of numbers that six columns hold
+begins-written : (bs : Bytes) (zs : List ℤ) (rest : Bytes) → Begins bs zs rest → AllInColumns zs × (bs ≡ line zs ++ rest)
+begins-written bs [] rest b = (tt, unfold line flatMap in b)
+begins-written bs (z ∷ zs) rest b =
+    let f = field-words (b .0) z (b .3 .0) .0 (b .3 .1) in
+    let o = begins-written (b .1) zs rest (b .4) in
+    ((f .0, o .0), b .2 ∙ ap₂ (λ (x y : Bytes). x ++ y) (f .1) (o .1) ∙ sym (line-first z zs rest))
+
+-- and the other way round
+written-begins : (bs : Bytes) (zs : List ℤ) (rest : Bytes) → AllInColumns zs → bs ≡ line zs ++ rest → Begins bs zs rest
+written-begins bs [] rest h e = unfold line flatMap in e
+written-begins bs (z ∷ zs) rest h e =
+    let six = field-length z (h .0) in
+    (fieldOf z, line zs ++ rest, e ∙ line-first z zs rest, (six, field-words (fieldOf z) z six .1 (h .0, refl)), written-begins (line zs ++ rest) zs rest (h .1) refl)
+
+-- the same of lines
+pub consists-written : (bs : Bytes) (ls : List (List ℤ)) → Consists bs ls → LinesInColumns ls × (bs ≡ flatMap line ls)
+unfolding flatMap
+consists-written bs [] c = (tt, c)
+consists-written bs (l ∷ ls) c =
+    let f = begins-written bs l (c .0) (c .1) in
+    let o = consists-written (c .0) ls (c .2) in
+    ((f .0, o .0), f .1 ∙ ap (λ x. line l ++ x) (o .1))
+
+-- and the other way round
+pub written-consists : (bs : Bytes) (ls : List (List ℤ)) → LinesInColumns ls → bs ≡ flatMap line ls → Consists bs ls
+unfolding flatMap
+written-consists bs [] h e = e
+written-consists bs (l ∷ ls) h e = (flatMap line ls, written-begins bs l (flatMap line ls) (h .0) e, written-consists (flatMap line ls) ls (h .1) refl)
+
 -- ---- the tests in words
 
--- the bytes begin with a line of k numbers in columns exactly if the test says so
-pub line-iff : (k : ℕ) (bs : Bytes) → (isLine k bs ≡ true) ↔ ((zs : List ℤ) × (rest : Bytes) × (length zs ≡ k) × Begins bs zs rest)
-line-iff k bs = (
-  λ h. (numbersOf k bs, behind k bs, numbers-length k bs, line-again k bs h),
-  λ w. ap₂ isLine (sym (w .2)) (w .3 .1) ∙ line-read (w .0) (w .1) (w .3 .0) .in-form,
-)
+-- a line that is read begins the bytes
+pub read-begins : (k : ℕ) (bs : Bytes) → isLine k bs ≡ true → Begins bs (numbersOf k bs) (behind k bs)
+read-begins k bs h = let r = line-again k bs h in written-begins bs (numbersOf k bs) (behind k bs) (r .0) (r .1)
 
--- and those numbers and the rest are the ones that are read
+-- a line that begins the bytes is read, with its numbers and the rest
 pub begins-read : (bs : Bytes) (zs : List ℤ) (rest : Bytes) → Begins bs zs rest → LineRead zs rest bs
-begins-read bs zs rest w = subst (LineRead zs rest) (sym (w .1)) (line-read zs rest (w .0))
+begins-read bs zs rest b = let w = begins-written bs zs rest b in subst (LineRead zs rest) (sym (w .1)) (line-read zs rest (w .0))
 
--- the bytes are lines with these numbers of fields, in columns, and nothing else, exactly if the test says so
+-- the bytes begin with a line of k numbers exactly if the test says so
+pub line-iff : (k : ℕ) (bs : Bytes) → (isLine k bs ≡ true) ↔ ((zs : List ℤ) × (rest : Bytes) × (length zs ≡ k) × Begins bs zs rest)
+line-iff k bs = (λ h. (numbersOf k bs, behind k bs, numbers-length k bs, read-begins k bs h), λ w. ap (λ n. isLine n bs) (sym (w .2)) ∙ begins-read bs (w .0) (w .1) (w .3) .in-form)
+
+-- lines that the bytes consist of are read, with their numbers
+pub consists-read : (bs : Bytes) (ls : List (List ℤ)) → Consists bs ls → (areLines (map length ls) bs ≡ true) × (lineNumbers (map length ls) bs ≡ ls)
+consists-read bs ls c =
+    let w = consists-written bs ls c in
+    let r = lines-read ls (w .0) in
+    (ap (areLines (map length ls)) (w .1) ∙ r .0, ap (lineNumbers (map length ls)) (w .1) ∙ r .1)
+
+-- the bytes consist of lines with these numbers of fields exactly if the test says so
 pub lines-iff : (ks : List ℕ) (bs : Bytes) → (areLines ks bs ≡ true) ↔ ((ls : List (List ℤ)) × (map length ls ≡ ks) × Consists bs ls)
-lines-iff ks bs = (λ h. (lineNumbers ks bs, lines-widths ks bs, lines-again ks bs h), λ w. ap₂ areLines (sym (w .1)) (w .2 .1) ∙ lines-read (w .0) (w .2 .0) .0)
-
--- and those numbers are the ones that are read
-pub consists-read : (bs : Bytes) (ls : List (List ℤ)) → Consists bs ls → lineNumbers (map length ls) bs ≡ ls
-consists-read bs ls w = ap (lineNumbers (map length ls)) (w .1) ∙ lines-read ls (w .0) .1
+lines-iff ks bs = (
+  λ h. let r = lines-again ks bs h in (lineNumbers ks bs, lines-widths ks bs, written-consists bs (lineNumbers ks bs) (r .0) (r .1)),
+  λ w. ap (λ x. areLines x bs) (sym (w .1)) ∙ consists-read bs (w .0) (w .2) .0,
+)

@@ -18,12 +18,12 @@ use Rattle.nest_text.specs.Fields.{Bytes, fieldOf}
 use Rattle.nest_text.specs.Text.{line, linesOf, textOf, isLine, numbersOf, behind, areLines, lineNumbers, headerWidth, widths, headed, nestFrom, headerOf, widthsOf, bodyOf, readRefusal, readNest}
 use Rattle.nest_text.specs.Reader.{headerRefusal}
 use Rattle.nest_text.specs.Stored.{InColumns}
-use Rattle.nest_text.specs.Form.{AllInColumns, LinesInColumns, Begins, Consists, Whole}
+use Rattle.nest_text.specs.Form.{Consists, Whole}
 use Rattle.nest_text.proofs.WriteLaws.{field-length}
 use Rattle.nest.proofs.Spans.{Spans, spans, HeaderSpans, header-spans}
 use Rattle.nest.proofs.Refused.{accepted, none-of}
 use Rattle.nest_text.proofs.TextLength.{shapeLine, shape-columns, limits-columns, time-columns, dependence-columns, boundary-columns, weight-columns}
-use Rattle.nest_text.proofs.LineBack.{LineRead, all-tab, line-read, lines-read, line-again, lines-again, lines-widths, numbers-length}
+use Rattle.nest_text.proofs.LineBack.{AllInColumns, LinesInColumns, LineRead, all-tab, line-read, lines-read, line-again, lines-again, lines-widths, numbers-length, consists-written, written-consists}
 use Rattle.nest_text.proofs.ReadLaws.{same-shape, header-checked, header-zero, whole-passed, header-form, header-fits, rest-form, rest-checked}
 use Rattle.nest.proofs.Places.{cleared-refusal}
 use Rattle.nest_text.proofs.NestLines.{Lines, pair, bodyLines, nest-again, body-widths, triple-back, Parts, parts, made, made-is, made-lines, made-clear}
@@ -84,7 +84,7 @@ fits-columns s e zs m z n =
     (leZ-yes (true-T (b .0)), leZ-yes (true-T (b .1)), field-length z c)
 
 -- an accepted text is read as what its lines say
-pub read-is : (bs : Bytes) → readRefusal bs ≡ 0 → readNest bs ≡ bodyOf bs
+read-is : (bs : Bytes) → readRefusal bs ≡ 0 → readNest bs ≡ bodyOf bs
 read-is bs e = sym (ap (λ (x : Reading). x .nest) (whole-passed bs e))
 
 -- ---- what was written is read
@@ -129,7 +129,7 @@ text-read s h =
     }
 
 -- a line 1 with these numbers meets the conditions that the nest meets
-pub shape-same : (s : LoopNest) → firstMet (headed (shapeLine s)) headerOrder ≡ firstMet s headerOrder
+shape-same : (s : LoopNest) → firstMet (headed (shapeLine s)) headerOrder ≡ firstMet s headerOrder
 unfolding headed
 shape-same s = same-shape (headed (shapeLine s)) s refl refl refl
 
@@ -161,14 +161,16 @@ pub record WrittenRead (bs : Bytes) : Type 0 where
   pub accepted : refusal (readNest bs) ≡ 0
   pub clear-places : cleared (readNest bs) ≡ readNest bs
 
--- a text in form, with line 1 in span, is the text of the nest that its lines say
+-- a text that says a nest is the nest's text
+pub whole-text : (bs : Bytes) (s : LoopNest) → Whole bs s → LinesInColumns (linesOf s) × (bs ≡ textOf s)
+unfolding textOf
+whole-text bs s w = consists-written bs (linesOf s) (w .lines-are)
+
+-- a text in form, with line 1 in span, says the nest that is read
 pub body-whole : (bs : Bytes) → headerRefusal bs ≡ 0 → areLines (widthsOf bs) (behind headerWidth bs) ≡ true → Whole bs (bodyOf bs)
 unfolding bodyOf widthsOf
-body-whole bs none others = subst (Whole bs) (sym (made-is n m c ls p few)) (record {
-  in-columns = subst LinesInColumns (sym lines) (first .0, rest .0);
-  text-is = unfold textOf flatMap in first .1 ∙ ap (λ l. line (numbersOf headerWidth bs) ++ l) (rest .1) ∙ sym (ap (flatMap line) lines);
-  other-places = made-clear n m c ls p few;
-})
+body-whole bs none others =
+    subst (Whole bs) (sym (made-is n m c ls p few)) (record { lines-are = subst (Consists bs) (sym lines) (written-consists bs (numbersOf headerWidth bs ∷ ls) (first .0, rest .0) text); other-places = made-clear n m c ls p few })
   where
     y : LoopNest
     y = headerOf bs
@@ -194,11 +196,14 @@ body-whole bs none others = subst (Whole bs) (sym (made-is n m c ls p few)) (rec
     p : Parts n m ls
     p = parts n m ls (lines-widths (widths n m) (behind headerWidth bs))
 
-    first : Begins bs (numbersOf headerWidth bs) (behind headerWidth bs)
+    first : AllInColumns (numbersOf headerWidth bs) × (bs ≡ line (numbersOf headerWidth bs) ++ behind headerWidth bs)
     first = line-again headerWidth bs (header-form bs none)
 
-    rest : Consists (behind headerWidth bs) ls
+    rest : LinesInColumns ls × (behind headerWidth bs ≡ flatMap line ls)
     rest = lines-again (widths n m) (behind headerWidth bs) others
+
+    text : bs ≡ flatMap line (numbersOf headerWidth bs ∷ ls)
+    text = unfold flatMap in first .1 ∙ ap (λ l. line (numbersOf headerWidth bs) ++ l) (rest .1)
 
     lines : linesOf (made n m c ls p few) ≡ numbersOf headerWidth bs ∷ ls
     lines = made-lines n m c ls p few ∙ ap (λ (z : List ℤ). z ∷ ls) (ap₂ (λ (a b : ℤ). a ∷ b ∷ c ∷ []) (sym (sh .depth-is)) (sym (sh .count-is)) ∙ header-is bs)
@@ -211,7 +216,7 @@ written-read bs e =
     let w = body-whole bs none form in
     let is = read-is bs e in
     record {
-      same-bytes = ap textOf is ∙ sym (w .text-is);
+      same-bytes = ap textOf is ∙ sym (whole-text bs (bodyOf bs) w .1);
       accepted = ap refusal is ∙ sym (rest-checked bs none form) ∙ e;
       clear-places = ap cleared is ∙ w .other-places ∙ sym is;
     }

@@ -23,9 +23,9 @@ use Rattle.nest_text.specs.Fields.{Bytes}
 use Rattle.nest_text.specs.Text.{isLine, behind, areLines, headerWidth, widths, headed, headerOf, widthsOf, bodyOf, readRefusal, readNest}
 use Rattle.nest_text.specs.Reader.{headerRefusal}
 use Rattle.nest_text.specs.Form.{Begins, Consists, Whole, First, ReadSays, line-malformed, line-refused, rest-malformed, nest-refused, nest-accepted}
-use Rattle.nest_text.proofs.LineBack.{line-again, lines-iff, begins-read}
+use Rattle.nest_text.proofs.LineBack.{lines-iff, read-begins, begins-read}
 use Rattle.nest_text.proofs.ReadLaws.{header-malformed, header-checked, header-answers, whole-refused, shape-kept, rest-malformed as rest-is-malformed}
-use Rattle.nest_text.proofs.RoundTrip.{read-written, text-answered, header-is, body-whole}
+use Rattle.nest_text.proofs.RoundTrip.{read-written, text-answered, header-is, whole-text, body-whole}
 
 -- ---- the conditions of line 1: 2, 3, 4
 
@@ -112,7 +112,7 @@ module _ (bs : Bytes) where
 
   -- line 1 in form begins the text
   begins : isLine headerWidth bs ≡ true → Begins bs (headerOf bs .depth ∷ headerOf bs .count ∷ headerOf bs .cube ∷ []) (behind headerWidth bs)
-  begins t = subst (λ zs. Begins bs zs (behind headerWidth bs)) (sym (header-is bs)) (line-again headerWidth bs t)
+  begins t = subst (λ zs. Begins bs zs (behind headerWidth bs)) (sym (header-is bs)) (read-begins headerWidth bs t)
 
   -- and says what is read of it
   says-header : headed (headerOf bs .depth ∷ headerOf bs .count ∷ headerOf bs .cube ∷ []) ≡ headerOf bs
@@ -153,7 +153,7 @@ module _ (bs : Bytes) where
 
 -- the text of a nest with line 1 in span is answered as the nest is
 whole-answer : (bs : Bytes) (s : LoopNest) → Whole bs s → firstMet s headerOrder ≡ 0 → readRefusal bs ≡ refusal s
-whole-answer bs s w e = ap readRefusal (w .text-is) ∙ text-answered s (w .in-columns) e ∙ ap refusal (w .other-places)
+whole-answer bs s w e = let t = whole-text bs s w in ap readRefusal (t .1) ∙ text-answered s (t .0) e ∙ ap refusal (w .other-places)
 
 -- what they say is answered
 pub says-unique : (bs : Bytes) (k : ℕ) (x : LoopNest) → ReadSays bs k x → (readRefusal bs ≡ k) × (readNest bs ≡ x)
@@ -168,7 +168,8 @@ says-unique bs k x (nest-refused s r w l f) =
     refused-with bs (number r) (not-zero r) (whole-answer bs s w e ∙ answered s r .1 f)
 says-unique bs k x (nest-accepted s w none) =
     let r = read-written s (accepted-iff s .1 none) in
-    (ap readRefusal (w .text-is) ∙ r .0, ap readNest (w .text-is) ∙ r .1 ∙ w .other-places)
+    let t = whole-text bs s w .1 in
+    (ap readRefusal t ∙ r .0, ap readNest t ∙ r .1 ∙ w .other-places)
 
 -- ---- what is answered, they say
 module _ (bs : Bytes) where

@@ -2,16 +2,15 @@
 -- LineBack.antt for Text.isLine and Text.areLines, SaysLaws.antt for Text.readRefusal and Text.readNest.
 -- Assumes nothing.
 use mathlib.Core.Path.{_≡_}
-use mathlib.Core.List.{List, [], _∷_, _++_, map, flatMap}
+use mathlib.Core.List.{List, [], _∷_, _++_, map}
 use Prim.Native.Nat.{ℕ, _+_, _*_, _^_, _<_, _≤_}
 use lib.IntN.{ℤ, pos, negℤ}
 use lib.ListN.{length, getD, replicate}
 use Rattle.nest.specs.declared.LoopNest.{LoopNest}
 use Rattle.nest.specs.Nest.{toℕ, cleared, emptyNest}
 use Rattle.nest.specs.Refusals.{Refusal, number, Condition}
-use Rattle.nest_text.specs.Fields.{Bytes}
-use Rattle.nest_text.specs.Text.{line, linesOf, textOf, widths, headed}
-use Rattle.nest_text.specs.Stored.{InColumns}
+use Rattle.nest_text.specs.Fields.{Bytes, newline}
+use Rattle.nest_text.specs.Text.{linesOf, widths, headed}
 
 -- ---- a number in columns
 
@@ -42,32 +41,27 @@ pub data Numeral (bs : Bytes) : ℤ → Type 0 where
   -- spaces, a minus, digits; no minus zero
   minus-digits : (k : ℕ) (ds : List ℕ) → Decimal ds → 0 < decimal ds → bs ≡ replicate k 32 ++ (45 ∷ digitBytes ds) → Numeral bs (negℤ (pos (decimal ds)))
 
+-- six columns that say the number
+abbrev pub Column : Bytes → ℤ → Type 0
+Column bs z = (length bs ≡ 6) × Numeral bs z
+
 -- ---- lines
 
--- each is a number that six columns hold
-abbrev pub AllInColumns : List ℤ → Type 0
-AllInColumns [] = Unit {0}
-AllInColumns (z ∷ zs) = InColumns z × AllInColumns zs
-
--- the same of each line
-abbrev pub LinesInColumns : List (List ℤ) → Type 0
-LinesInColumns [] = Unit {0}
-LinesInColumns (l ∷ ls) = AllInColumns l × LinesInColumns ls
-
--- the bytes begin with a line: the field of each of these numbers (six bytes that say it, Numerals.field-words), then byte 10; the rest stands behind it
+-- the bytes begin with a line of these numbers: six columns for each, then byte 10; the rest stands behind it
 abbrev pub Begins : Bytes → List ℤ → Bytes → Type 0
-Begins bs zs rest = AllInColumns zs × (bs ≡ line zs ++ rest)
+Begins bs [] rest = bs ≡ newline ∷ rest
+Begins bs (z ∷ zs) rest = (column : Bytes) × (others : Bytes) × (bs ≡ column ++ others) × Column column z × Begins others zs rest
 
--- the bytes are the lines of these numbers, and nothing follows the last
+-- the bytes are lines of these numbers, one after the other, and nothing follows the last
 abbrev pub Consists : Bytes → List (List ℤ) → Type 0
-Consists bs ls = LinesInColumns ls × (bs ≡ flatMap line ls)
+Consists bs [] = bs ≡ []
+Consists bs (zs ∷ ls) = (rest : Bytes) × Begins bs zs rest × Consists rest ls
 
 -- ---- the whole text
 
--- it is in form and says the nest: it is the nest's text, each number in columns, and places that it has no field for are 0
+-- it is in form and says the nest: it consists of the nest's lines, and places that they have no field for are 0
 pub record Whole (bs : Bytes) (s : LoopNest) : Type 0 where
-  pub in-columns : LinesInColumns (linesOf s)
-  pub text-is : bs ≡ textOf s
+  pub lines-are : Consists bs (linesOf s)
   pub other-places : cleared s ≡ s
 
 -- condition r is met, and none before it
