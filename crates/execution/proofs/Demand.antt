@@ -11,8 +11,8 @@ use lib.ListN.{length, getD, drop, length-append, List·getD-append}
 use Rattle.nest.specs.declared.LoopNest.{LoopNest}
 use Rattle.nest.specs.Nest.{countOf}
 use Rattle.nest.specs.Points.{pointsOf}
-use Rattle.nest.specs.Refusals.{refusal}
-use Rattle.nest.proofs.Entries.{orElse-zero}
+use Rattle.nest.specs.Refusals.{refusal, tableAfter}
+use Rattle.nest.proofs.Entries.{orElse-zero, made-table}
 use Rattle.partition.specs.Partition.{stepsOf}
 use Rattle.partition.proofs.Theorems.{later-step, steps-length}
 use Rattle.mapping.specs.Mapping.{processorsOf, isMessage, messageCount}
@@ -20,7 +20,7 @@ use Rattle.mapping.proofs.Theorems.{processors-length, processors-below}
 use Rattle.sequential.specs.Sequential.{Rule, sequential, ruleOf, valuesOf}
 use Rattle.sequential.proofs.LoopLaws.{is-source}
 use Rattle.planner.specs.declared.Planning.{Planning}
-use Rattle.planner.specs.Plan.{noRoom, planRefusal, planAnswer, tableAfter}
+use Rattle.planner.specs.Plan.{noRoom, planRefusal, planAnswer}
 use Rattle.execution.specs.Rules.{Move, Effect, refuse, iteration, message, answer, Layout, effect}
 use Rattle.execution.specs.Machine.{Machine, freshMachine, machineAfter, machineView, machineAnswer, machineNext, layoutOf, referenceRun, referenceAnswers, computedCount, deliveredCount, allowedCount}
 use Rattle.execution.specs.Run.{State, moveEffect, moveAnswer, after, run, answers}
@@ -51,19 +51,14 @@ planned-same s L ok pl = record {
   processor = λ k h. ap (λ t. getD t k 0) (pl .processors) ∙ List·getD-append (processorsOf s) (pl .behind-processors) 0 k (let n = processors-length s in omega arith);
 }
 
--- a table that `plan` left, with no refusal
-table-made : (k : ℕ) (table old : List ℕ) → k ≡ 0 → tableAfter k table old ≡ table ++ drop (length table) old
-unfolding tableAfter
-table-made k table old e = rw (eq-eqb k 0 e, tableAfter) refl
-
 -- what `plan` promises of its answer and of the step and processor tables is enough
 pub plan-planned : (s : LoopNest) (r : Planning) (steps processors steps′ processors′ : List ℕ) → r .refusal ≡ 0 → steps′ ≡ tableAfter (r .refusal) (stepsOf s) steps
     → processors′ ≡ tableAfter (r .refusal) (processorsOf s) processors → Planned s (record { steps = steps′; processors = processors′ })
 plan-planned s r steps processors steps′ processors′ e p q = record {
   behind-steps = drop (length (stepsOf s)) steps;
   behind-processors = drop (length (processorsOf s)) processors;
-  steps = p ∙ table-made (r .refusal) (stepsOf s) steps e;
-  processors = q ∙ table-made (r .refusal) (processorsOf s) processors e;
+  steps = p ∙ made-table (r .refusal) _ (stepsOf s) steps e refl;
+  processors = q ∙ made-table (r .refusal) _ (processorsOf s) processors e refl;
 }
 
 -- ---- demand 3

@@ -6,12 +6,12 @@ use Prim.Native.Nat.{ℕ, _+_}
 use lib.ListN.{length, drop}
 use Rattle.nest.specs.declared.LoopNest.{LoopNest}
 use Rattle.nest.specs.Points.{pointsOf}
-use Rattle.nest.specs.Refusals.{refusal}
+use Rattle.nest.specs.Refusals.{refusal, tableAfter}
 use Rattle.partition.specs.Partition.{stepsOf}
 use Rattle.mapping.specs.Mapping.{processorsOf, messageCount}
 use Rattle.sequential.specs.Sequential.{ruleOf, valuesOf}
 use Rattle.planner.specs.declared.Planning.{Planning}
-use Rattle.planner.specs.Plan.{planRefusal, planAnswer, tableAfter}
+use Rattle.planner.specs.Plan.{planRefusal, planAnswer}
 use Rattle.execution.specs.declared.Move as asked
 use Rattle.execution.specs.declared.Answer.{Answer}
 use Rattle.execution.specs.Rules.{Move, Layout}

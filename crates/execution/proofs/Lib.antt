@@ -5,6 +5,8 @@ pub mod MachineLaws
 pub mod TableLaws
 pub mod Demand
 pub mod WordLaws
+pub mod Answers
+pub mod Ignored
 pub mod ExampleRun
 pub mod BitLaws
 pub mod FindingLaws

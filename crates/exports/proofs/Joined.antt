@@ -12,7 +12,8 @@ use Rattle.partition.specs.Partition.{stepsOf, blocksOf}
 use Rattle.mapping.specs.Mapping.{processorsOf}
 use Rattle.sequential.specs.Sequential.{fillRefusal, filled, ruleOf, valuesOf}
 use Rattle.planner.specs.declared.Planning.{Planning}
-use Rattle.planner.specs.Plan.{planRefusal, planAnswer, countsIn, tableAfter}
+use Rattle.nest.specs.Refusals.{tableAfter}
+use Rattle.planner.specs.Plan.{planRefusal, planAnswer, countsIn}
 use Rattle.execution.specs.declared.Move as asked
 use Rattle.execution.specs.declared.Answer.{Answer}
 use Rattle.execution.specs.Rules.{Layout}

@@ -1,15 +1,16 @@
 -- Laws of the refusals behind 13, for the entries that have them.
 -- Assumes nothing.
-use mathlib.Core.Path.{_≡_, refl}
+use mathlib.Core.Path.{_≡_, refl, ap}
+use mathlib.Core.List.{List, _++_}
 use Prim.Native.Nat.{ℕ, zero, suc, _≤_, _<_}
 use native.Mathlib.Omega.{arith}
-use borrow.Author.Tests.{le-leb, lt-leb, eq-eqb}
+use borrow.Author.Tests.{le-leb, lt-leb, eq-eqb, ne-eqb}
 use mathlib.Core.Bool.{true, false}
 use lib.Dec.{leb, eqb}
-use lib.ListN.{length}
+use lib.ListN.{length, drop}
 use Rattle.nest.specs.declared.LoopNest.{LoopNest}
 use Rattle.nest.specs.Points.{pointsOf}
-use Rattle.nest.specs.Refusals.{refusal, iterations, orElse, shortBuffer}
+use Rattle.nest.specs.Refusals.{refusal, iterations, orElse, shortBuffer, tableAfter}
 
 -- the first answer stands where it is a refusal, and else the second
 pub orElse-first : (a b : ℕ) → (a ≡ 0 → ⊥) → orElse a b ≡ a
@@ -35,6 +36,16 @@ long-enough needed room h = rw (le-leb needed room h, shortBuffer) refl
 pub too-short : (needed room : ℕ) → room < needed → shortBuffer needed room ≡ 14
 unfolding shortBuffer
 too-short needed room h = rw (lt-leb needed room h, shortBuffer) refl
+
+-- a buffer after a refused call is as it was
+pub same-table : (k : ℕ) (table old : List ℕ) → (k ≡ 0 → ⊥) → tableAfter k table old ≡ old
+unfolding tableAfter
+same-table k table old h = rw (tableAfter, ne-eqb k 0 h) refl
+
+-- after one that is done it holds n entries, and behind them what stood there
+pub made-table : (k n : ℕ) (table old : List ℕ) → k ≡ 0 → length table ≡ n → tableAfter k table old ≡ table ++ drop n old
+unfolding tableAfter
+made-table k n table old e q = rw (tableAfter, eq-eqb k 0 e) (ap (λ i. table ++ drop i old) q)
 
 -- the number of iterations of an accepted nest
 pub iterations-are : (s : LoopNest) → refusal s ≡ 0 → iterations s ≡ length (pointsOf s)

@@ -8,7 +8,7 @@ use mathlib.Core.Logic.{_⊎_, _↔_}
 use Prim.Native.Nat.{ℕ, zero, suc, _+_, _<_, _≤_}
 use lib.Dec.{ltb, eqb, leb}
 use lib.IntN.{ℤ, pos, negℤ}
-use lib.ListN.{length, getD}
+use lib.ListN.{length, getD, drop}
 use lib.Signed.{leZ, ltZ, _≤ℤ_, _<ℤ_}
 use Rattle.integers.specs.Lists.{any, repeats}
 use Rattle.integers.specs.Vector.{Vector, dots, eqZ, eqV}
@@ -111,6 +111,10 @@ orElse (suc a) b = suc a
 -- 14: a buffer has fewer entries than are needed
 unfoldable pub shortBuffer : ℕ → ℕ → ℕ
 shortBuffer needed room = elim (leb needed room) [ true ↦ 0 | false ↦ 14 ]
+
+-- a buffer after a call that is refused with number k, or done where k is 0: what it is to hold, and behind that what it held before; all that it held before where refused
+unfoldable pub tableAfter : ℕ → List ℕ → List ℕ → List ℕ
+tableAfter k table old = elim (eqb k 0) [ true ↦ table ++ drop (length table) old | false ↦ old ]
 
 -- the number of iterations of an accepted nest; 0 for a refused one
 unfoldable pub iterations : LoopNest → ℕ

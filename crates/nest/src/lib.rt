@@ -70,7 +70,7 @@ impl LoopNest {
 
     pub const MAX_LIMIT: i64 = 1000;
 
-    pub const MAX_ITERATIONS: u64 = 4096;
+    pub const MAX_ITERATIONS: usize = 4096;
 
     pub const MAX_COMPONENT: i64 = 16;
 
@@ -416,7 +416,7 @@ fn check_limits(s: LoopNest, n: usize) -> u8
     if any_crossed(lower, upper, n) {
         return BAD_LIMITS;
     }
-    if LoopNest::MAX_ITERATIONS < point_count(lower, upper, n) {
+    if (LoopNest::MAX_ITERATIONS as u64) < point_count(lower, upper, n) {
         return TOO_MANY_POINTS;
     }
     0

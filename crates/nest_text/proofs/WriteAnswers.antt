@@ -9,7 +9,7 @@ use borrow.Author.Tests.{eq-eqb, ne-eqb}
 use lib.ListN.{length, drop}
 use lib.Seq.{sets, sets-eq}
 use Rattle.nest.specs.Refusals.{orElse, shortBuffer}
-use Rattle.nest.proofs.Entries.{orElse-first, orElse-second, long-enough, too-short}
+use Rattle.nest.proofs.Entries.{orElse-first, orElse-second, long-enough, too-short, same-table, made-table}
 use Rattle.nest_text.specs.declared.Writing.{Writing}
 use Rattle.nest_text.specs.Fields.{Bytes}
 use Rattle.nest_text.specs.Text.{writeRefusal, writtenLength, written}
@@ -26,7 +26,7 @@ module _ (number : ℕ) (bytes old : Bytes) where
   refused k e h =
       let f = ne-eqb (writeRefusal number bytes (length old)) 0 (λ z. h (e ∙ z)) in (
         ap₂ (λ (a b : ℕ). let r : Writing = record { refusal = a; length = b } in r) e (sym (ap (λ b. elim b as (λ _. ℕ) [ true ↦ length bytes | false ↦ 0 ]) f)),
-        sym (ap (λ b. elim b as (λ _. Bytes) [ true ↦ bytes ++ drop (length bytes) old | false ↦ old ]) f),
+        sym (same-table (writeRefusal number bytes (length old)) bytes old (λ z. h (e ∙ z))),
       )
 
   -- refused with the call's own number
@@ -53,5 +53,5 @@ module _ (number : ℕ) (bytes old : Bytes) where
         let t = eq-eqb (writeRefusal number bytes (length old)) 0 none in
         let start : 0 + length bytes ≡ length bytes = omega arith in (
           ap₂ (λ (a b : ℕ). let r : Writing = record { refusal = a; length = b } in r) (sym none) (p ∙ sym (ap (λ b. elim b as (λ _. ℕ) [ true ↦ length bytes | false ↦ 0 ]) t)),
-          q ∙ sets-eq bytes old 0 room ∙ ap (λ k. bytes ++ drop k old) start ∙ sym (ap (λ b. elim b as (λ _. Bytes) [ true ↦ bytes ++ drop (length bytes) old | false ↦ old ]) t),
+          q ∙ sets-eq bytes old 0 room ∙ ap (λ k. bytes ++ drop k old) start ∙ sym (made-table (writeRefusal number bytes (length old)) (length bytes) bytes old none refl),
         )

@@ -11,7 +11,7 @@ use lib.ListN.{length, getD, take, drop, replicate}
 use Rattle.integers.specs.Lists.{any, tab}
 use Rattle.nest.specs.declared.LoopNest.{LoopNest}
 use Rattle.nest.specs.Nest.{Limit, toℕ, depthOf, countOf, limitsOf, timeOf, dependencesOf, weightsOf, nestOf, emptyNest, maxDepth, maxDependences}
-use Rattle.nest.specs.Refusals.{firstMet, headerOrder, bodyOrder, orElse, shortBuffer, Met}
+use Rattle.nest.specs.Refusals.{firstMet, headerOrder, bodyOrder, orElse, shortBuffer, tableAfter, Met}
 use Rattle.nest_text.specs.declared.fields.Field.{Field}
 use Rattle.nest_text.specs.declared.fields.Field.the-variants.{Number, Malformed}
 use Rattle.nest_text.specs.Fields.{Bytes, columns, newline, fieldOf, readOf}
@@ -140,4 +140,4 @@ writtenLength number bytes room = elim (eqb (writeRefusal number bytes room) 0) 
 
 -- what the buffer then holds: the bytes and what stood behind them, or all that it held before
 unfoldable pub written : ℕ → Bytes → Bytes → Bytes
-written number bytes old = elim (eqb (writeRefusal number bytes (length old)) 0) [ true ↦ bytes ++ drop (length bytes) old | false ↦ old ]
+written number bytes old = tableAfter (writeRefusal number bytes (length old)) bytes old

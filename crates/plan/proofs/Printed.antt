@@ -14,7 +14,7 @@ use Rattle.io.specs.Counts.{Counts}
 use Rattle.integers.specs.Lists.{split}
 use Rattle.nest.specs.Refusals.{orElse, shortBuffer}
 use Rattle.nest.proofs.Accepted.{few-points}
-use Rattle.nest.proofs.Entries.{orElse-second, orElse-first, long-enough}
+use Rattle.nest.proofs.Entries.{orElse-second, orElse-first, long-enough, same-table, made-table}
 use Rattle.nest_text.specs.declared.Writing.{Writing}
 use Rattle.nest_text.specs.Fields.{Bytes}
 use Rattle.nest_text.specs.Stored.{Stored}
@@ -61,7 +61,7 @@ module _ (text old : Bytes) (room : 127007 ≤ length old) (r : Writing) (new : 
   -- nothing is written where it is refused
   untouched : (r .refusal ≡ 0 → ⊥) → new ≡ old
   unfolding written
-  untouched h = w .1 ∙ ap (λ b. elim b as (λ _. Bytes) [ true ↦ bytes ++ drop (length bytes) old | false ↦ old ]) (ne-eqb (writeRefusal (readRefusal text) bytes (length old)) 0 (λ z. h (ap (λ (x : Writing). x .refusal) (w .0) ∙ z)))
+  untouched h = w .1 ∙ same-table (writeRefusal (readRefusal text) bytes (length old)) bytes old (λ z. h (ap (λ (x : Writing). x .refusal) (w .0) ∙ z))
 
   -- a refused text: the line of its number, at the buffer's start
   pub number-printed : {last : Bytes} {end : ℕ} → (r .refusal ≡ 0 → ⊥) → Stored new 0 (line (pos (r .refusal) ∷ [])) last end → Stored old 0 (listing text) last end
@@ -73,10 +73,11 @@ module _ (text old : Bytes) (room : 127007 ≤ length old) (r : Writing) (new : 
   unfolding written writtenLength
   plan-printed z =
       let e : readRefusal text ≡ 0 = sym own-number ∙ z in
-      let t = eq-eqb (writeRefusal (readRefusal text) bytes (length old)) 0 (sym (ap (λ (x : Writing). x .refusal) (w .0)) ∙ z) in
+      let none = sym (ap (λ (x : Writing). x .refusal) (w .0)) ∙ z in
+      let t = eq-eqb (writeRefusal (readRefusal text) bytes (length old)) 0 none in
       let m = plan-most text e in
       stored-as (sym (listing-plan text e)) (record {
-        bytes = w .1 ∙ ap (λ b. elim b as (λ _. Bytes) [ true ↦ bytes ++ drop (length bytes) old | false ↦ old ]) t ∙ ap (λ k. bytes ++ drop k old) (sym (zero-add (length bytes))) ∙ sym (sets-eq bytes old 0 (omega arith));
+        bytes = w .1 ∙ made-table (writeRefusal (readRefusal text) bytes (length old)) (length bytes) bytes old none refl ∙ ap (λ k. bytes ++ drop k old) (sym (zero-add (length bytes))) ∙ sym (sets-eq bytes old 0 (omega arith));
         ends = ap (λ (x : Writing). x .length) (w .0) ∙ ap (λ b. elim b as (λ _. ℕ) [ true ↦ length bytes | false ↦ 0 ]) t ∙ sym (zero-add (length bytes));
       })
 

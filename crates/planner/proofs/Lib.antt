@@ -1,4 +1,6 @@
 -- The laws that the functions' proofs share.
+pub mod Answers
+pub mod Ignored
 pub mod Bridge
 pub mod LineLaws
 pub mod ListLaws

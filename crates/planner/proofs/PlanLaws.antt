@@ -9,8 +9,8 @@ use lib.ListN.{length, drop}
 use Rattle.integers.specs.Lists.{below-or-not}
 use Rattle.nest.specs.declared.LoopNest.{LoopNest}
 use Rattle.nest.specs.Points.{pointsOf}
-use Rattle.nest.specs.Refusals.{refusal, orElse, shortBuffer}
-use Rattle.nest.proofs.Entries.{orElse-first, orElse-second, orElse-zero, long-enough, too-short}
+use Rattle.nest.specs.Refusals.{refusal, orElse, shortBuffer, tableAfter}
+use Rattle.nest.proofs.Entries.{orElse-first, orElse-second, orElse-zero, long-enough, too-short, same-table, made-table}
 use Rattle.partition.specs.Partition.{stepsOf, blocksOf}
 use Rattle.partition.proofs.Theorems.{steps-length, blocks-length}
 use Rattle.mapping.specs.Mapping.{processorsOf}
@@ -18,7 +18,7 @@ use Rattle.mapping.proofs.Theorems.{processors-length}
 use Rattle.sequential.specs.Sequential.{sequential, ruleOf, valuesOf}
 use Rattle.sequential.proofs.LoopLaws.{loop-length}
 use Rattle.planner.specs.declared.Planning.{Planning}
-use Rattle.planner.specs.Plan.{noRoom, planRefusal, refusedWith, planAnswer, tableAfter}
+use Rattle.planner.specs.Plan.{noRoom, planRefusal, refusedWith, planAnswer}
 
 -- ---- room for n entries
 
@@ -53,18 +53,6 @@ pub none-short : (n a b c d : ℕ) → n ≤ a → n ≤ b → n ≤ c → n ≤
 none-short n a b c d ha hb hc hd =
     long-here n a (orElse (shortBuffer n b) (orElse (shortBuffer n c) (shortBuffer n d))) ha ∙ long-here n b (orElse (shortBuffer n c) (shortBuffer n d)) hb
     ∙ long-here n c (shortBuffer n d) hc ∙ long-enough n d hd
-
--- ---- a table after the call
-
--- a refusal leaves it as it was
-same-table : (k : ℕ) (table old : List ℕ) → (k ≡ 0 → ⊥) → tableAfter k table old ≡ old
-unfolding tableAfter
-same-table k table old h = rw (tableAfter, ne-eqb k 0 h) refl
-
--- else it holds n entries, and what stood behind them
-pub made-table : (k n : ℕ) (table old : List ℕ) → k ≡ 0 → length table ≡ n → tableAfter k table old ≡ table ++ drop n old
-unfolding tableAfter
-made-table k n table old e q = rw (tableAfter, eq-eqb k 0 e) (ap (λ i. table ++ drop i old) q)
 
 -- each iteration has a value
 pub values-length : (s : LoopNest) → length (valuesOf s) ≡ length (pointsOf s)

@@ -1,7 +1,10 @@
 -- The listing (document 01, "A listing in full"): what the planning program prints for a text.
 -- Assumes nothing.
+use mathlib.Core.Path.{_≡_}
 use mathlib.Core.Bool.{true, false}
+use mathlib.Core.Logic.{_⊎_}
 use mathlib.Core.List.{List, [], _∷_, map, flatMap}
+use Prim.Native.Nat.{ℕ, _<_, _≤_}
 use lib.Dec.{eqb}
 use lib.IntN.{ℤ, pos}
 use lib.ListN.{length}
@@ -28,3 +31,7 @@ planText s = flatMap line (planLines s)
 -- what is printed for a text: the plan of its nest; a refusal is its number alone
 unfoldable pub listing : Bytes → Bytes
 listing text = elim (eqb (readRefusal text) 0) [ true ↦ planText (readNest text) | false ↦ line (pos (readRefusal text) ∷ []) ]
+
+-- the conditions of `list`'s numbers: those of the text (nest_text Form.ReadSays), then 14 (proofs/Answers.antt: the first that is met is answered)
+abbrev pub ListMet : Bytes → ℕ → ℕ → Type 0
+ListMet text room k = ((1 ≤ k) × (readRefusal text ≡ k)) ⊎ ((k ≡ 14) × (room < length (planText (readNest text))))

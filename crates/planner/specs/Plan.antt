@@ -1,13 +1,15 @@
 -- The plan of a loop nest: four tables and five counts, and what a call of `plan` answers and leaves in its tables.
 -- Assumes nothing.
+use mathlib.Core.Path.{_≡_}
 use mathlib.Core.Bool.{true, false}
-use mathlib.Core.List.{List, [], _∷_, _++_}
-use Prim.Native.Nat.{ℕ}
+use mathlib.Core.Logic.{_⊎_}
+use mathlib.Core.List.{List, [], _∷_}
+use Prim.Native.Nat.{ℕ, _<_}
 use lib.Dec.{eqb}
-use lib.ListN.{length, drop}
+use lib.ListN.{length}
 use Rattle.nest.specs.declared.LoopNest.{LoopNest}
 use Rattle.nest.specs.Points.{pointsOf}
-use Rattle.nest.specs.Refusals.{refusal, orElse, shortBuffer}
+use Rattle.nest.specs.Refusals.{refusal, orElse, shortBuffer, Met}
 use Rattle.partition.specs.Partition.{stepCount, blockCount}
 use Rattle.mapping.specs.Mapping.{processorCount, messageCount}
 use Rattle.planner.specs.declared.Planning.{Planning}
@@ -28,6 +30,14 @@ noRoom n steps blocks processors values = orElse (shortBuffer n steps) (orElse (
 unfoldable pub planRefusal : LoopNest → ℕ → ℕ → ℕ → ℕ → ℕ
 planRefusal s steps blocks processors values = orElse (refusal s) (noRoom (length (pointsOf s)) steps blocks processors values)
 
+-- one of four tables has fewer than n entries
+abbrev pub OneShort : ℕ → ℕ → ℕ → ℕ → ℕ → Type 0
+OneShort n steps blocks processors values = (steps < n) ⊎ ((blocks < n) ⊎ ((processors < n) ⊎ (values < n)))
+
+-- the conditions of these numbers in the document's words (proofs/Answers.antt: the first that is met is answered)
+abbrev pub PlanMet : LoopNest → ℕ → ℕ → ℕ → ℕ → ℕ → Type 0
+PlanMet s steps blocks processors values k = Met s k ⊎ ((k ≡ 14) × OneShort (length (pointsOf s)) steps blocks processors values)
+
 -- refused with this number: every count is 0
 abbrev pub refusedWith : ℕ → Planning
 refusedWith k = record { refusal = k; iterations = 0; steps = 0; blocks = 0; processors = 0; messages = 0 }
@@ -39,7 +49,3 @@ planAnswer s k =
       | true ↦ record { refusal = 0; iterations = length (pointsOf s); steps = stepCount s; blocks = blockCount s; processors = processorCount s; messages = messageCount s }
       | false ↦ refusedWith k
     ]
-
--- a table after the call: what it is to hold, and behind that what it held before; all that it held before where the call is refused with this number
-unfoldable pub tableAfter : ℕ → List ℕ → List ℕ → List ℕ
-tableAfter k table old = elim (eqb k 0) [ true ↦ table ++ drop (length table) old | false ↦ old ]

@@ -10,13 +10,13 @@ ghost use Prim.Native.Nat.{_≤_, _+_, _*_};
 ghost use lib.ListN.{length, drop};
 ghost use lib.Seq.{sets};
 ghost use Rattle.nest.specs.Points.{pointsOf};
-ghost use Rattle.nest.specs.Refusals.{refusal};
+ghost use Rattle.nest.specs.Refusals.{refusal, tableAfter};
 ghost use Rattle.partition.specs.Partition.{stepsOf, blocksOf, blockCount};
 ghost use Rattle.mapping.specs.Mapping.{processorsOf};
 ghost use Rattle.sequential.specs.Sequential.{valuesOf};
 ghost use Rattle.nest_text.specs.Text.{readRefusal, readNest, writeRefusal, writtenLength, written};
 ghost use Rattle.planner.specs.Listing.{planText};
-ghost use Rattle.planner.specs.Plan.{noRoom, planRefusal, refusedWith, planAnswer, tableAfter};
+ghost use Rattle.planner.specs.Plan.{noRoom, planRefusal, refusedWith, planAnswer};
 
 // What `plan` answers: the number of the first refusal with every count 0, or 0 with the counts.
 pub struct Planning {
@@ -66,7 +66,7 @@ fn place_blocks(s: LoopNest, n: usize, blocks: &mut [u16], processors: &mut [u8]
     ensures { λ r. ⌜ now (blocks .exit) ≡ blocksOf s ++ drop n (now (blocks .entry)) ⌝ }
     ensures { λ r. ⌜ now (processors .exit) ≡ processorsOf s ++ drop n (now (processors .entry)) ⌝ }
 {
-    let mut keys = [0i64; 16384];
+    let mut keys = [0i64; LoopNest::MAX_ITERATIONS * 4];
     let count = partition::blocks_into(s, n, &mut keys, blocks);
     let cube = nest::to_size(s.cube);
     mapping::processors_into(&keys, n, cube, processors);
@@ -136,10 +136,10 @@ fn put_plan(s: LoopNest, n: usize, out: &mut [u8])
     requires { ⌜ (refusal s ≡ 0) × (n ≡ length (pointsOf s)) × (31 * (n + 1) ≤ length (now out)) ⌝ }
     ensures { λ _. ⌜ now (out .exit) ≡ sets (now (out .entry)) 0 (planText s) ⌝ }
 {
-    let mut steps = [0u32; 4096];
-    let mut blocks = [0u16; 4096];
-    let mut processors = [0u8; 4096];
-    let mut values = [0u16; 4096];
+    let mut steps = [0u32; LoopNest::MAX_ITERATIONS];
+    let mut blocks = [0u16; LoopNest::MAX_ITERATIONS];
+    let mut processors = [0u8; LoopNest::MAX_ITERATIONS];
+    let mut values = [0u16; LoopNest::MAX_ITERATIONS];
     let p = plan(s, &mut steps, &mut blocks, &mut processors, &mut values);
     let counts = [p.iterations, p.steps, p.blocks, p.processors, p.messages];
     let end = lines::put_counts(out, 0, counts);

@@ -4,13 +4,12 @@ use mathlib.Core.List.{List, [], _∷_, _++_, append-assoc}
 use Prim.Native.Nat.{ℕ, suc, _+_, _<_, _≤_}
 use native.Mathlib.Numerals.{add-one}
 use native.Mathlib.Omega.{arith}
-use borrow.Author.Tests.{eq-eqb, ne-eqb}
 use lib.ListN.{length, getD, set, drop, length-append, length-drop}
 use lib.Seq.{drop-cons, set-at}
 use Rattle.nest.specs.declared.LoopNest.{LoopNest}
 use Rattle.nest.specs.Points.{pointsOf}
 use Rattle.nest.specs.Refusals.{refusal, shortBuffer}
-use Rattle.nest.proofs.Entries.{orElse-first, orElse-second, long-enough, too-short}
+use Rattle.nest.proofs.Entries.{orElse-first, orElse-second, long-enough, too-short, same-table, made-table}
 use Rattle.sequential.specs.Sequential.{valueOf, loop, sequential, ruleOf, valuesOf, fillRefusal, filled}
 use Rattle.sequential.proofs.LoopLaws.{loop-more, loop-length, value-front}
 
@@ -49,7 +48,7 @@ module _ (s : LoopNest) (old : List ℕ) where
 -- a refusal leaves the table as it was
 refused-table : (s : LoopNest) (old : List ℕ) (r : ℕ) → fillRefusal s (length old) ≡ r → (r ≡ 0 → ⊥) → filled s old ≡ old
 unfolding filled
-refused-table s old r e h = rw (filled, ne-eqb (fillRefusal s (length old)) 0 (λ z. h (sym e ∙ z))) refl
+refused-table s old r e h = same-table (fillRefusal s (length old)) (valuesOf s) old (λ z. h (sym e ∙ z))
 
 -- the nest is refused
 pub refused-nest : (s : LoopNest) (old : List ℕ) (r : ℕ) → r ≡ refusal s → (r ≡ 0 → ⊥) → (r ≡ fillRefusal s (length old)) × (old ≡ filled s old)
@@ -74,4 +73,4 @@ filled-table s old new n ok e h q = (sym number, q ∙ ap (filledTo s old) e ∙
     number = unfold fillRefusal in orElse-second (refusal s) (shortBuffer (length (pointsOf s)) (length old)) ok ∙ long-enough (length (pointsOf s)) (length old) (omega arith)
 
     table : filled s old ≡ filledTo s old (length (pointsOf s))
-    table = unfold filled valuesOf sequential in rw (filled, eq-eqb (fillRefusal s (length old)) 0 number) (ap (λ k. loop (ruleOf s) s (length (pointsOf s)) ++ drop k old) (loop-length (ruleOf s) s (length (pointsOf s))))
+    table = unfold filled valuesOf sequential in made-table (fillRefusal s (length old)) (length (pointsOf s)) (loop (ruleOf s) s (length (pointsOf s))) old number (loop-length (ruleOf s) s (length (pointsOf s)))
