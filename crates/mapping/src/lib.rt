@@ -53,38 +53,28 @@ fn code_of(value: i64, least: i64, width: u64, bits: u64) -> u64
     gray_of(height(least, value) * power(bits) / width)
 }
 
-// The least of the numbers j of n rows.
-fn least_in(keys: &[i64], j: usize, n: usize) -> i64
-    requires { ⌜ (1 ≤ n) × (n ≤ maxIterations) × (j < maxDepth) × (n * rowLength ≤ length (now keys)) ⌝ }
-    ensures { λ r. ⌜ r ≡ leastZ (column (now (keys .entry)) j n) ⌝ }
+// A direction with no bits: its least value and its width.
+struct Reach {
+    least: i64,
+    width: u64,
+}
+
+// The direction whose values are the numbers j of n rows.
+fn reach_in(keys: &[i64], j: usize, n: usize) -> Reach
+    requires { ⌜ (1 ≤ n) × (n ≤ maxIterations) × (j < maxDepth) × Keyed (now keys) n ⌝ }
+    ensures { λ r. ⌜ (r .least ≡ spanOf (column (now (keys .entry)) j n) .least) × (r .width ≡ spanOf (column (now (keys .entry)) j n) .width) ⌝ }
 {
     let mut least = keys[j];
+    let mut greatest = least;
     for k in 1..n {
-        least = integers::lesser(least, keys[k * ROW + j]);
+        let value = keys[k * ROW + j];
+        least = integers::lesser(least, value);
+        greatest = integers::larger(greatest, value);
     }
-    least
-}
-
-// The greatest of the numbers j of n rows.
-fn greatest_in(keys: &[i64], j: usize, n: usize) -> i64
-    requires { ⌜ (1 ≤ n) × (n ≤ maxIterations) × (j < maxDepth) × (n * rowLength ≤ length (now keys)) ⌝ }
-    ensures { λ r. ⌜ r ≡ greatestZ (column (now (keys .entry)) j n) ⌝ }
-{
-    let mut greatest = keys[j];
-    for k in 1..n {
-        greatest = integers::larger(greatest, keys[k * ROW + j]);
+    Reach {
+        least: least,
+        width: height(least, greatest) + 1,
     }
-    greatest
-}
-
-// The width of the direction whose values are the numbers j of n rows.
-fn width_in(keys: &[i64], j: usize, n: usize) -> u64
-    requires { ⌜ (1 ≤ n) × (n ≤ maxIterations) × (j < maxDepth) × Keyed (now keys) n ⌝ }
-    ensures { λ r. ⌜ r ≡ spanOf (column (now (keys .entry)) j n) .width ⌝ }
-{
-    let least = least_in(keys, j, n);
-    let greatest = greatest_in(keys, j, n);
-    height(least, greatest) + 1
 }
 
 // The directions q, b, class with no bits: the least value and the width of each.
@@ -98,15 +88,12 @@ fn spans_in(keys: &[i64], n: usize) -> Spans
     requires { ⌜ (1 ≤ n) × (n ≤ maxIterations) × Keyed (now keys) n ⌝ }
     ensures { λ r. ⌜ held (r .least) (r .width) (0 ∷ 0 ∷ 0 ∷ []) ≡ directionsIn (now (keys .entry)) n ⌝ }
 {
-    let q = least_in(keys, 1, n);
-    let b = least_in(keys, 2, n);
-    let class = least_in(keys, 0, n);
-    let q_width = width_in(keys, 1, n);
-    let b_width = width_in(keys, 2, n);
-    let class_width = width_in(keys, 0, n);
+    let q = reach_in(keys, 1, n);
+    let b = reach_in(keys, 2, n);
+    let class = reach_in(keys, 0, n);
     Spans {
-        least: [q, b, class],
-        width: [q_width, b_width, class_width],
+        least: [q.least, b.least, class.least],
+        width: [q.width, b.width, class.width],
     }
 }
 
