@@ -1,25 +1,41 @@
 // Vectors of four numbers: inner products, projections, multipliers and normals.
 ghost use mathlib.Core.Path.{_≡_};
 ghost use mathlib.Core.Bool.{true, false};
-ghost use mathlib.Core.List.{[], _∷_};
 ghost use Prim.Native.Nat.{_<_, _≤_};
-ghost use lib.IntN.{pos, natAbs, _+ℤ_, _-ℤ_, _*ℤ_};
+ghost use lib.IntN.{pos, natAbs, _-ℤ_, _*ℤ_};
 ghost use lib.Signed.{_≤ℤ_};
+ghost use lib.ListN.{getD};
 ghost use Rattle.integers.specs.Vector.{dots, isZeroV, AllWithin};
 ghost use Rattle.grouping.specs.Periods.{Serves, PeriodAll};
 ghost use Rattle.integers.specs.Extremes.{maxZ};
 ghost use Rattle.grouping.specs.Projection.{projection, multiplier};
 ghost use Rattle.grouping.specs.Basis.{minor, normal};
 
+// The product of two vectors' components at place i.
+fn term(a: [i64; 4], b: [i64; 4], i: usize) -> i64
+    requires { ⌜ AllWithin 30000 a × AllWithin 30000 b × (i < 4) ⌝ }
+    ensures { λ r. ⌜ r ≡ getD a i (pos 0) *ℤ getD b i (pos 0) ⌝ }
+{
+    a[i] * b[i]
+}
+
 // The inner product.
 pub fn inner(a: [i64; 4], b: [i64; 4]) -> i64
     requires { ⌜ AllWithin 30000 a × AllWithin 30000 b ⌝ }
     ensures { λ r. ⌜ r ≡ dots a b ⌝ }
 {
-    a[0] * b[0] + a[1] * b[1] + a[2] * b[2] + a[3] * b[3]
+    term(a, b, 0) + term(a, b, 1) + term(a, b, 2) + term(a, b, 3)
 }
 
-// s times the projection of d, s being P·P.
+// A component of s times the projection of d, s being P·P and t being P·d.
+fn projected(p: [i64; 4], d: [i64; 4], s: i64, t: i64, i: usize) -> i64
+    requires { ⌜ AllWithin 16 p × AllWithin 16 d × (natAbs s ≤ 1024) × (natAbs t ≤ 1024) × (i < 4) ⌝ }
+    ensures { λ r. ⌜ r ≡ s *ℤ getD d i (pos 0) -ℤ t *ℤ getD p i (pos 0) ⌝ }
+{
+    s * d[i] - t * p[i]
+}
+
+// s times the projection of d.
 pub fn project(p: [i64; 4], d: [i64; 4]) -> [i64; 4]
     requires { ⌜ AllWithin 16 p × AllWithin 16 d ⌝ }
     ensures { λ r. ⌜ r ≡ projection p d ⌝ }
@@ -27,10 +43,10 @@ pub fn project(p: [i64; 4], d: [i64; 4]) -> [i64; 4]
     let s = inner(p, p);
     let t = inner(p, d);
     [
-        s * d[0] - t * p[0],
-        s * d[1] - t * p[1],
-        s * d[2] - t * p[2],
-        s * d[3] - t * p[3],
+        projected(p, d, s, t, 0),
+        projected(p, d, s, t, 1),
+        projected(p, d, s, t, 2),
+        projected(p, d, s, t, 3),
     ]
 }
 
@@ -94,22 +110,12 @@ pub fn is_zero(v: [i64; 4]) -> bool
     v[3] == 0
 }
 
-// a, b and c are the rows of a matrix: its determinant.
-pub fn determinant(
-    a0: i64,
-    a1: i64,
-    a2: i64,
-    b0: i64,
-    b1: i64,
-    b2: i64,
-    c0: i64,
-    c1: i64,
-    c2: i64,
-) -> i64
-    requires { ⌜ AllWithin 16 (a0 ∷ a1 ∷ a2 ∷ b0 ∷ b1 ∷ b2 ∷ c0 ∷ c1 ∷ c2 ∷ []) ⌝ }
-    ensures { λ r. ⌜ r ≡ a0 *ℤ (b1 *ℤ c2 -ℤ b2 *ℤ c1) -ℤ a1 *ℤ (b0 *ℤ c2 -ℤ b2 *ℤ c0) +ℤ a2 *ℤ (b0 *ℤ c1 -ℤ b1 *ℤ c0) ⌝ }
+// The determinant of two rows at two columns.
+fn pair(b: [i64; 4], c: [i64; 4], j: usize, k: usize) -> i64
+    requires { ⌜ AllWithin 16 b × AllWithin 16 c × (j < 4) × (k < 4) ⌝ }
+    ensures { λ r. ⌜ r ≡ getD b j (pos 0) *ℤ getD c k (pos 0) -ℤ getD b k (pos 0) *ℤ getD c j (pos 0) ⌝ }
 {
-    a0 * (b1 * c2 - b2 * c1) - a1 * (b0 * c2 - b2 * c0) + a2 * (b0 * c1 - b1 * c0)
+    b[j] * c[k] - b[k] * c[j]
 }
 
 // The determinant of three rows at three columns.
@@ -118,7 +124,7 @@ pub fn minor(a: [i64; 4], b: [i64; 4], c: [i64; 4], i: usize, j: usize, k: usize
     requires { ⌜ (i < 4) × (j < 4) × (k < 4) ⌝ }
     ensures { λ r. ⌜ r ≡ minor a b c i j k ⌝ }
 {
-    determinant(a[i], a[j], a[k], b[i], b[j], b[k], c[i], c[j], c[k])
+    a[i] * pair(b, c, j, k) - a[j] * pair(b, c, i, k) + a[k] * pair(b, c, i, j)
 }
 
 // The vector whose inner product with w is the determinant of the rows w, a, b, c.

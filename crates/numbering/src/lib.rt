@@ -3,7 +3,9 @@ mod numbers;
 mod tables;
 
 pub use crate::numbers::number_table;
+pub use crate::tables::difference;
 pub use crate::tables::one_more;
 pub use crate::tables::place_before;
 pub use crate::tables::put_row;
 pub use crate::tables::row_of;
+pub use crate::tables::same_vector;

@@ -2,6 +2,7 @@
 use crate::tables::one_more;
 use crate::tables::place_before;
 use crate::tables::row_of;
+use crate::tables::same_vector;
 ghost use mathlib.Core.Path.{_≡_};
 ghost use mathlib.Core.Bool.{true};
 ghost use mathlib.Core.List.{_++_, map};
@@ -18,18 +19,9 @@ pub fn same_row(keys: &[i64], i: usize, h: usize) -> bool
     requires { ⌜ (i < 4096) × (h < 4096) ⌝ }
     ensures { λ r. ⌜ r ≡ eqV (row (now (keys .entry)) i) (row (now (keys .entry)) h) ⌝ }
 {
-    let a = i * 4;
-    let b = h * 4;
-    if keys[a] != keys[b] {
-        return false;
-    }
-    if keys[a + 1] != keys[b + 1] {
-        return false;
-    }
-    if keys[a + 2] != keys[b + 2] {
-        return false;
-    }
-    keys[a + 3] == keys[b + 3]
+    let a = row_of(keys, i);
+    let b = row_of(keys, h);
+    same_vector(a, b)
 }
 
 // Whether h is an earlier row that is equal to row i.

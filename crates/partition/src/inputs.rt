@@ -1,5 +1,4 @@
 // What the partition takes from a loop nest, as rows of four numbers with zeros behind the depth.
-use crate::groups::difference;
 use grouping::Frame;
 use nest::LoopNest;
 ghost use mathlib.Core.Path.{_≡_};
@@ -133,7 +132,7 @@ pub fn apart(points: &[i64], n: usize, v: [i64; 4]) -> i64
     requires { ⌜ (1 ≤ n) × (n ≤ 4096) × (n * 4 ≤ length (now points)) × AllWithin 1000 (now points) × AllWithin 16 v ⌝ }
     ensures { λ r. ⌜ natAbs r ≤ 100000000 ⌝ }
 {
-    let e = difference(points, n - 1, 0);
+    let e = numbering::difference(points, n - 1, 0);
     (v[0] * (e[1] + 1) + v[1]) * (e[2] + 1) + v[2]
 }
 

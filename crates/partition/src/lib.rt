@@ -1,10 +1,7 @@
 // The partition of a loop nest's iterations into blocks (000, algorithm 1; document 01, "From sheet to plan").
-mod groups;
 mod inputs;
 mod schedule;
 
-use crate::groups::class_rows;
-use crate::groups::key_table;
 use crate::inputs::fill_points;
 use crate::inputs::frame_of;
 use crate::inputs::line_of;
@@ -35,8 +32,8 @@ pub fn blocks_into(s: LoopNest, n: usize, keys: &mut [i64], blocks: &mut [u16]) 
     let p = f.p;
     let line = line_of(p, &points, n);
     let v = line.vector;
-    class_rows(f, &points, v, line.back, n, keys);
+    classes::class_rows(f, &points, v, line.back, n, keys);
     numbering::number_table(keys, line.back, n, blocks);
-    key_table(f, r, &points, v, line.back, blocks, n, keys);
+    classes::key_table(f, r, &points, v, line.back, blocks, n, keys);
     numbering::number_table(keys, line.back, n, blocks)
 }

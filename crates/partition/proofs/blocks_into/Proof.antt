@@ -12,9 +12,9 @@ use Rattle.grouping.specs.Basis.{basisFrame}
 use Rattle.numbering.specs.Tables.{rows}
 use Rattle.partition.proofs.Answers.{table-is, blocks-are, count-is}
 use Rattle.numbering.proofs.Table.{table-long, table-rest}
-use Rattle.partition.proofs.KeyTable.{grouped-after}
+use Rattle.classes.proofs.KeyTable.{grouped-after}
 use Rattle.partition.proofs.NestVectors.{zeros-within}
-use Rattle.partition.proofs.Residues.{class-numbers}
+use Rattle.classes.proofs.Residues.{class-numbers}
 use Rattle.partition.proofs.blocks_into.Statement.{statement}
 use Rattle.partition.proofs.blocks_into.Tie as tie
 

@@ -1,4 +1,4 @@
--- `partition::group_size` meets its contract. Assumes nothing.
+-- `group_size` meets its contract. Assumes nothing.
 use mathlib.Core.Path.{_≡_, sym, _∙_, ap, ap₂, subst}
 use mathlib.Core.List.{List}
 use Prim.Native.Nat.{ℕ, _≤_, _-_}

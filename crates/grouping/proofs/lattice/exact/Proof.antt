@@ -1,4 +1,4 @@
--- `partition::exact` meets its contract. Assumes nothing.
+-- `exact` meets its contract. Assumes nothing.
 use mathlib.Core.Path.{_≡_, sym, _∙_, ap}
 use mathlib.Core.Bool.{true}
 use native.Mathlib.Omega.{arith}

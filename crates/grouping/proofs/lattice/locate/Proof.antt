@@ -1,4 +1,4 @@
--- `partition::locate` meets its contract. Assumes nothing.
+-- `locate` meets its contract. Assumes nothing.
 use mathlib.Core.Path.{_≡_, sym, _∙_, ap₂, subst}
 use mathlib.Core.List.{List}
 use Prim.Native.Nat.{_≤_}
