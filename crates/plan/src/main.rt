@@ -3,10 +3,10 @@
 use libc::STDIN_FILENO;
 use libc::STDOUT_FILENO;
 ghost use mathlib.Core.Path.{_≡_};
-ghost use mathlib.Core.List.{[], _∷_};
-ghost use Prim.Native.Nat.{_≤_};
+ghost use mathlib.Core.List.{List, [], _∷_};
+ghost use Prim.Native.Nat.{ℕ, _≤_};
 ghost use lib.IntN.{pos};
-ghost use lib.ListN.{length};
+ghost use lib.ListN.{length, take};
 ghost use Rattle.io.specs.Counts.{Counts};
 ghost use Rattle.nest_text.specs.Text.{line};
 ghost use Rattle.nest_text.specs.Stored.{Stored};
@@ -17,6 +17,14 @@ const MOST_READ: usize = 285;
 
 // the bytes of the longest listing: 31 for each of 4096 iterations, and for the counts
 const MOST_PRINTED: usize = 127007;
+
+// The buffer that the text is read into. It has room for so many bytes of an input that they decide what is printed.
+fn input_buffer() -> [u8; MOST_READ]
+    ensures { λ r. ⌜ 285 ≡ length r ⌝ }
+    ensures { λ r. ⌜ ((text : List ℕ) → listing (take (length r) text) ≡ listing text) ⌝ }
+{
+    [0; MOST_READ]
+}
 
 // Writes a line of one number.
 fn put_number(out: &mut [u8], x: u8) -> usize
@@ -41,7 +49,7 @@ fn put_listing(text: &[u8], out: &mut [u8]) -> usize
 }
 
 fn main() {
-    let mut text = [0u8; MOST_READ];
+    let mut text = input_buffer();
     let n = io::read_full(STDIN_FILENO, &mut text);
     let mut out = [0u8; MOST_PRINTED];
     let length = put_listing(&text[..n], &mut out);

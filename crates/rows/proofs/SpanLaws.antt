@@ -32,7 +32,7 @@ module _ (s : LoopNest) (entries : ℕ) (i : ℤ) where
 
   -- ---- the ways out of `locate`
   pub bad-nest : (refusal s ≡ 0 → ⊥) → spanOf s entries i ≡ record { refusal = refusal s; start = 0; length = 0 }
-  bad-nest h = refused-span (refusal s) (unfold rowRefusal in orElse-first (refusal s) (orElse (shortBuffer (length (pointsOf s)) entries) (noSuchRow s i)) h) h
+  bad-nest h = refused-span (refusal s) (unfold rowRefusal in orElse-first (refusal s) _ h) h
 
   module _ (ok : refusal s ≡ 0) where
     behind : rowRefusal s entries i ≡ orElse (shortBuffer (length (pointsOf s)) entries) (noSuchRow s i)
