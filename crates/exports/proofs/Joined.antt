@@ -1,16 +1,19 @@
 -- The parts of a nest joined, and the answers to a call on numbers. Assumes nothing.
 use mathlib.Core.Path.{_≡_, refl, sym, ap, ap₂, _∙_}
 use mathlib.Core.List.{List, [], _∷_}
-use Prim.Native.Nat.{ℕ, zero, suc}
+use Prim.Native.Nat.{ℕ, zero, suc, _+_}
 use native.Mathlib.Omega.{arith}
 use borrow.Author.Tests.{ne-eqb}
 use lib.IntN.{ℤ, pos}
 use lib.ListN.{length, getD}
+use Rattle.integers.specs.Lists.{tab, tab-list}
 use Rattle.nest.specs.declared.LoopNest.{LoopNest}
 use Rattle.nest.specs.Nest.{part}
 use Rattle.partition.specs.Partition.{stepsOf, blocksOf}
 use Rattle.mapping.specs.Mapping.{processorsOf}
 use Rattle.sequential.specs.Sequential.{fillRefusal, filled, ruleOf, valuesOf}
+use Rattle.rows.specs.declared.Span.{Span}
+use Rattle.rows.specs.Rows.{rowRefusal, spanOf}
 use Rattle.planner.specs.declared.Planning.{Planning}
 use Rattle.planner.specs.Plan.{planRefusal, planAnswer, countsIn, tableAfter}
 use Rattle.execution.specs.declared.Move as asked
@@ -18,7 +21,7 @@ use Rattle.execution.specs.declared.Answer.{Answer}
 use Rattle.execution.specs.Rules.{Layout}
 use Rattle.execution.specs.Run.{State, moveEffect, moveAnswer, moveAfter}
 use Rattle.execution.specs.Entry.{moveOf, numberOf, answerOf}
-use Rattle.exports.specs.Exports.{nestIn, madeIn}
+use Rattle.exports.specs.Exports.{nestIn, numbersOf, spanIn, madeIn}
 
 -- a nest made of the parts of numbers
 pub joined-nest : (xs : List ℤ) (depth count cube boundary : ℤ) (lower upper time dependences weights : List ℤ)
@@ -28,6 +31,22 @@ pub joined-nest : (xs : List ℤ) (depth count cube boundary : ℤ) (lower upper
 unfolding nestIn
 joined-nest xs depth count cube boundary lower upper time dependences weights p q r s t u v w x =
     λ i. record { depth = p i; count = q i; cube = r i; lower = s i; upper = t i; time = u i; dependences = v i; boundary = w i; weights = x i }
+
+-- the numbers of the nest that 45 numbers are, are these numbers
+pub numbers-back : (xs : List ℤ) → length xs ≡ 45 → numbersOf (nestIn xs) ≡ xs
+unfolding numbersOf nestIn part tab
+numbers-back xs h = tab-list (λ i. getD xs i (pos 0)) xs (pos 0) 45 h (λ i l. refl)
+
+-- an array as a part of itself
+whole : (xs : List ℤ) (n : ℕ) → length xs ≡ n → part xs 0 n ≡ xs
+unfolding part
+whole xs n h = tab-list (λ i. getD xs (0 + i) (pos 0)) xs (pos 0) n h (λ i l. ap (λ k. getD xs k (pos 0)) (omega arith))
+
+-- the nest that the numbers of a nest are, is this nest
+pub nest-back : (s : LoopNest) → length (s .lower) ≡ 3 → length (s .upper) ≡ 3 → length (s .time) ≡ 3 → length (s .dependences) ≡ 24 → length (s .weights) ≡ 8 → nestIn (numbersOf s) ≡ s
+unfolding numbersOf nestIn part tab
+nest-back s a b c d e =
+    λ i. record { depth = s .depth; count = s .count; cube = s .cube; lower = whole (s .lower) 3 a i; upper = whole (s .upper) 3 b i; time = whole (s .time) 3 c i; dependences = whole (s .dependences) 24 d i; boundary = s .boundary; weights = whole (s .weights) 8 e i }
 
 -- a filled table, where the nest is known
 pub filled-from : (s n : LoopNest) (r : ℕ) (old new : List ℕ) → s ≡ n → r ≡ fillRefusal s (length old) → new ≡ filled s old
@@ -57,6 +76,22 @@ module _ (s n : LoopNest) (a : Planning) (steps blocks processors values : List 
 -- a table, where the nest is known
 pub table-from : (f : LoopNest → List ℕ) (s n : LoopNest) (k : ℕ) (old new : List ℕ) → s ≡ n → new ≡ tableAfter k (f s) old → new ≡ tableAfter k (f n) old
 table-from f s n k old new e p = p ∙ ap (λ (z : LoopNest). tableAfter k (f z) old) e
+
+-- the number that a span holds
+span-number : (s : LoopNest) (entries : ℕ) (i : ℤ) → spanOf s entries i .refusal ≡ rowRefusal s entries i
+unfolding spanOf
+span-number s entries i = by (rowRefusal s entries i) refl
+  where
+    by : (k : ℕ) → rowRefusal s entries i ≡ k → spanOf s entries i .refusal ≡ rowRefusal s entries i
+    by zero e = rw (spanOf, e) refl
+    by (suc k) e = rw (spanOf, e, ne-eqb (suc k) 0 (λ q. absurd (omega arith))) e
+
+-- where the row of an index that is known lies, of a nest that is known
+pub located-from : (s n : LoopNest) (entries : ℕ) (i known : ℤ) (r : Span) → s ≡ n → i ≡ known → r ≡ spanOf s entries i
+    → (r .refusal ≡ rowRefusal n entries known) × (spanIn r ≡ spanIn (spanOf n entries known))
+located-from s n entries i known r e q p =
+    let h : r ≡ spanOf n entries known = p ∙ ap₂ (λ (z : LoopNest) (k : ℤ). spanOf z entries k) e q in
+    (ap (λ (z : Span). z .refusal) h ∙ span-number n entries known, ap spanIn h)
 
 -- a move on a nest that is known, by a request that is known
 pub move-from : (s n : LoopNest) (what known : asked.Move) (L : Layout) (st st′ : State ℕ) (r : Answer) (k : ℕ) (made : List ℕ) → s ≡ n → what ≡ known

@@ -1,2 +1,2 @@
--- A nest and the counts of a plan as numbers in a row.
+-- What is lent and answered, as numbers in a row.
 pub mod Exports

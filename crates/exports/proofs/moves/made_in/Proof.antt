@@ -2,8 +2,8 @@
 use borrow.Author.Needs.{needs}
 use mathlib.Core.Path.{sym, ap}
 use Rattle.exports.specs.Exports.{madeIn}
-use Rattle.exports.proofs.made_in.Statement.{statement}
-use Rattle.exports.proofs.made_in.Tie as tie
+use Rattle.exports.proofs.moves.made_in.Statement.{statement}
+use Rattle.exports.proofs.moves.made_in.Tie as tie
 
 enum-known-answer : tie.Need-enum-known-answer
 enum-known-answer c = search needs

@@ -2,8 +2,8 @@
 use mathlib.Core.Path.{refl}
 use borrow.Author.Tests.{eq-eqb, ne-eqb}
 use Rattle.exports.specs.Exports.{moveIn}
-use Rattle.exports.proofs.move_in.Statement.{statement}
-use Rattle.exports.proofs.move_in.Tie as tie
+use Rattle.exports.proofs.moves.move_in.Statement.{statement}
+use Rattle.exports.proofs.moves.move_in.Tie as tie
 
 returns : tie.Need-returns
 unfolding moveIn

@@ -3,9 +3,11 @@ use borrow.Author.Needs.{needs}
 use lib.IntN.{pos}
 use lib.ListN.{getD}
 use Rattle.integers.specs.Bounds.{told}
+use Rattle.integers.specs.Lists.{tab}
+use Rattle.nest.specs.Nest.{part}
 use Rattle.exports.proofs.Joined.{joined-nest}
-use Rattle.exports.proofs.nest_in.Statement.{statement}
-use Rattle.exports.proofs.nest_in.Tie as tie
+use Rattle.exports.proofs.nests.nest_in.Statement.{statement}
+use Rattle.exports.proofs.nests.nest_in.Tie as tie
 
 slice-aggregate-copy : tie.Need-slice-aggregate-copy
 slice-aggregate-copy c = search needs
@@ -50,6 +52,7 @@ element-copy-out-t43 : tie.Need-element-copy-out-t43
 element-copy-out-t43 c = search needs
 
 returns : tie.Need-returns
+unfolding part tab
 returns c =
     let s = c .before .before .before .before .before .before .before .before .before .before .before .before .before .before .before .before .before .before .before .before .before .before .before .before in
     let xs = s .args .numbers .now in
