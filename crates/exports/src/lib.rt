@@ -2,16 +2,13 @@
 //
 // A nest is lent as its 45 numbers. What an entry answers beside its number (counts, lengths, a span, a nest that was read) is stored through a reference of its own, zeros where
 // the call is refused: it is a part of the answer. `rows::row` answers a part of a lent table, which C cannot take: `rowlock_locate` says where that part lies.
-mod moves;
-mod nests;
-
-use crate::moves::made_in;
-use crate::moves::move_in;
-use crate::moves::number_of;
-use crate::nests::NUMBERS;
-use crate::nests::nest_in;
-use crate::nests::numbers_of;
 use execution::Request;
+use numbers::NUMBERS;
+use numbers::made_in;
+use numbers::move_in;
+use numbers::nest_in;
+use numbers::number_of;
+use numbers::numbers_of;
 ghost use mathlib.Core.Path.{_≡_};
 ghost use lib.ListN.{length};
 ghost use Rattle.nest.specs.Refusals.{refusal, iterations};
@@ -24,7 +21,7 @@ ghost use Rattle.planner.specs.Plan.{planRefusal, planAnswer, countsIn, tableAf
 ghost use Rattle.planner.specs.Listing.{planText};
 ghost use Rattle.execution.specs.Run.{moveEffect, moveAnswer, moveAfter};
 ghost use Rattle.execution.specs.Entry.{layoutIn, stateIn, moveOf, answerOf};
-ghost use Rattle.exports.specs.Exports.{nestIn, numbersOf, spanIn, moveIn, madeIn};
+ghost use Rattle.numbers.specs.Numbers.{nestIn, numbersOf, spanIn, moveIn, madeIn};
 
 // How many counts a plan has.
 const COUNTS: usize = 5;

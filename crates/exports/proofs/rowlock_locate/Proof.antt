@@ -1,7 +1,7 @@
 -- `rowlock_locate` meets its contract: it is `locate` of the nest that the numbers are, with the row's start and length stored. Assumes nothing.
 use borrow.Author.Needs.{needs}
 use mir.Facts.{toZ-ofZ}
-use Rattle.exports.specs.Exports.{nestIn}
+use Rattle.numbers.specs.Numbers.{nestIn}
 use Rattle.exports.proofs.Joined.{located-from}
 use Rattle.exports.proofs.rowlock_locate.Statement.{statement}
 use Rattle.exports.proofs.rowlock_locate.Tie as tie

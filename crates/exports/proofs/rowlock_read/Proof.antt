@@ -2,7 +2,7 @@
 use borrow.Author.Needs.{needs}
 use mathlib.Core.Path.{ap, _∙_}
 use Rattle.nest_text.specs.declared.Reading.{Reading}
-use Rattle.exports.specs.Exports.{numbersOf}
+use Rattle.numbers.specs.Numbers.{numbersOf}
 use Rattle.exports.proofs.rowlock_read.Statement.{statement}
 use Rattle.exports.proofs.rowlock_read.Tie as tie
 

@@ -1,9 +1,9 @@
 -- `made_in` tells what an answer carries. Assumes nothing.
 use borrow.Author.Needs.{needs}
 use mathlib.Core.Path.{sym, ap}
-use Rattle.exports.specs.Exports.{madeIn}
-use Rattle.exports.proofs.moves.made_in.Statement.{statement}
-use Rattle.exports.proofs.moves.made_in.Tie as tie
+use Rattle.numbers.specs.Numbers.{madeIn}
+use Rattle.numbers.proofs.moves.made_in.Statement.{statement}
+use Rattle.numbers.proofs.moves.made_in.Tie as tie
 
 enum-known-answer : tie.Need-enum-known-answer
 enum-known-answer c = search needs

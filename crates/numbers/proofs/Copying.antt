@@ -9,7 +9,7 @@ use lib.Seq.{sets, length-sets}
 use Rattle.integers.specs.Lists.{tab, tab-more, length-tab}
 use Rattle.nest.specs.declared.LoopNest.{LoopNest}
 use Rattle.nest.specs.Nest.{part}
-use Rattle.exports.specs.Exports.{numbersOf}
+use Rattle.numbers.specs.Numbers.{numbersOf}
 
 -- the first k of n numbers are copied
 abbrev pub Copied : List ℤ → ℕ → List ℤ → ℕ → ℕ → ℕ → List ℤ → Type 0

@@ -6,9 +6,9 @@ use native.Mathlib.Omega.{arith}
 use lib.IntN.{pos}
 use lib.ListN.{length, getD}
 use Rattle.integers.specs.Bounds.{told}
-use Rattle.exports.proofs.Copying.{Copied, copied-start, copied-length, copied-more, copied-end}
-use Rattle.exports.proofs.nests.copy.Statement.{statement}
-use Rattle.exports.proofs.nests.copy.Tie as tie
+use Rattle.numbers.proofs.Copying.{Copied, copied-start, copied-length, copied-more, copied-end}
+use Rattle.numbers.proofs.nests.copy.Statement.{statement}
+use Rattle.numbers.proofs.nests.copy.Tie as tie
 
 abbrev Inv-loop : tie.InvT-loop
 Inv-loop out₀ at numbers from n k₀ out k = Copied out₀ at numbers from n k out

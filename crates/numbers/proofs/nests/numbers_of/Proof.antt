@@ -5,9 +5,9 @@ use Prim.Native.Nat.{_≤_}
 use native.Mathlib.Omega.{arith}
 use lib.ListN.{length, length-set}
 use Rattle.integers.specs.Bounds.{told}
-use Rattle.exports.proofs.Copying.{copied-nest}
-use Rattle.exports.proofs.nests.numbers_of.Statement.{statement}
-use Rattle.exports.proofs.nests.numbers_of.Tie as tie
+use Rattle.numbers.proofs.Copying.{copied-nest}
+use Rattle.numbers.proofs.nests.numbers_of.Statement.{statement}
+use Rattle.numbers.proofs.nests.numbers_of.Tie as tie
 
 -- how many places the nest's arrays have
 lower-array : (c : tie.Start) → length (c .args .s .lower) ≡ 3

@@ -1,9 +1,9 @@
 -- `move_in` makes the move that the numbers ask for. Assumes nothing.
 use mathlib.Core.Path.{refl}
 use borrow.Author.Tests.{eq-eqb, ne-eqb}
-use Rattle.exports.specs.Exports.{moveIn}
-use Rattle.exports.proofs.moves.move_in.Statement.{statement}
-use Rattle.exports.proofs.moves.move_in.Tie as tie
+use Rattle.numbers.specs.Numbers.{moveIn}
+use Rattle.numbers.proofs.moves.move_in.Statement.{statement}
+use Rattle.numbers.proofs.moves.move_in.Tie as tie
 
 returns : tie.Need-returns
 unfolding moveIn

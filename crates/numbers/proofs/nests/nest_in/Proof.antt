@@ -5,9 +5,9 @@ use lib.ListN.{getD}
 use Rattle.integers.specs.Bounds.{told}
 use Rattle.integers.specs.Lists.{tab}
 use Rattle.nest.specs.Nest.{part}
-use Rattle.exports.proofs.Joined.{joined-nest}
-use Rattle.exports.proofs.nests.nest_in.Statement.{statement}
-use Rattle.exports.proofs.nests.nest_in.Tie as tie
+use Rattle.numbers.proofs.Parts.{joined-nest}
+use Rattle.numbers.proofs.nests.nest_in.Statement.{statement}
+use Rattle.numbers.proofs.nests.nest_in.Tie as tie
 
 slice-aggregate-copy : tie.Need-slice-aggregate-copy
 slice-aggregate-copy c = search needs

@@ -5,7 +5,7 @@ ghost use Prim.Native.Nat.{_+_, _≤_};
 ghost use lib.ListN.{length};
 ghost use lib.Seq.{sets};
 ghost use Rattle.nest.specs.Nest.{part};
-ghost use Rattle.exports.specs.Exports.{nestIn, numbersOf};
+ghost use Rattle.numbers.specs.Numbers.{nestIn, numbersOf};
 
 // How many numbers a nest has.
 pub const NUMBERS: usize = 45;

@@ -4,7 +4,7 @@ use execution::Delivery;
 use execution::Move;
 ghost use mathlib.Core.Path.{_≡_};
 ghost use Rattle.execution.specs.Entry.{numberOf};
-ghost use Rattle.exports.specs.Exports.{moveIn, madeIn};
+ghost use Rattle.numbers.specs.Numbers.{moveIn, madeIn};
 
 // The move that numbers ask for.
 pub fn move_in(kind: usize, first: usize, second: usize) -> Move
