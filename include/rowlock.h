@@ -5,8 +5,8 @@
  * call is refused.
  *
  * What a caller has to keep, and all of it:
- * - No pointer is null, also where its length is 0.
- * - A pointer with a length is to that many entries (not bytes) that may be read, and written where it is not const; any other is to one of what its type says.
+ * - No pointer is null, not even where its length is 0, and each is aligned as its type asks.
+ * - A pointer with a length is to that many entries (not bytes); any other is to one entry, or to as many as stand in brackets. All may be read, and written where not const.
  * - Nothing that a function may write overlaps with anything else that it is given, and no other thread touches what is lent before it returns.
  *
  * The library is for x86-64: int64_t and size_t have 64 bits. It keeps nothing between calls and takes no memory but the stack, less than half a megabyte. */

@@ -199,3 +199,11 @@ fn the_longest_listing_fills_the_most_bytes() {
     let mut buffer = vec![0; MAX_LISTING];
     assert_eq!(rowlock::list(text.as_bytes(), &mut buffer), Ok(MAX_LISTING));
 }
+
+#[test]
+fn half_a_megabyte_of_stack_is_enough() {
+    let text = text::write(&nests::full(&mut Random::new(24)));
+    let listed = move || rowlock::list(text.as_bytes(), &mut vec![0; MAX_LISTING]);
+    let thread = std::thread::Builder::new().stack_size(512 << 10).spawn(listed).expect("a thread");
+    assert_eq!(thread.join().expect("the listing is made"), Ok(MAX_LISTING));
+}
