@@ -1,6 +1,6 @@
 //! The run move by move, as one would write it in plain Rust for speed: the nest is checked once, and each move searches the tables as document 01 says.
 
-use crate::nest::{Answer, LoopNest, Move, State, Tables};
+use crate::nest::{Answer, Move, Nest, State, Tables};
 use crate::plain::{check, dot, Loops, Vector};
 
 /// A nest that passed its checks.
@@ -18,7 +18,7 @@ fn refused(number: u8) -> Answer {
 
 impl Machine {
     /// The machine of an accepted nest, or the number of its refusal.
-    pub fn new(nest: &LoopNest) -> Result<Machine, u8> {
+    pub fn new(nest: &Nest) -> Result<Machine, u8> {
         let iterations = check(nest)?;
         Ok(Machine {
             iterations,

@@ -9,22 +9,22 @@ mod runs;
 use std::hint::black_box;
 use std::time::Instant;
 
-use nest::{LoopNest, Tables};
+use nest::{Nest, Tables};
 use plain::Lookup;
 
 /// L1 of document 000, of so many iterations a side.
-fn l1(side: i64) -> LoopNest {
-    LoopNest::new(&[side, side], &[1, 1], &[&[0, 1], &[1, 1], &[1, 0]], 6)
+fn l1(side: i64) -> Nest {
+    nest::with_extents(&[side, side], &[1, 1], &[&[0, 1], &[1, 1], &[1, 0]], 6)
 }
 
 /// L2 of document 000.
-fn l2(extents: &[i64; 3]) -> LoopNest {
-    LoopNest::new(extents, &[1, 1, 1], &[&[0, 1, 0], &[1, 0, 0], &[0, 0, 1]], 6)
+fn l2(extents: &[i64; 3]) -> Nest {
+    nest::with_extents(extents, &[1, 1, 1], &[&[0, 1, 0], &[1, 0, 0], &[0, 0, 1]], 6)
 }
 
 /// A nest whose chosen projections span a coarse lattice, so that few iterations share a class: at 16 x 16 x 16 it has 4035 classes.
-fn many_classes(extents: &[i64; 3]) -> LoopNest {
-    LoopNest::new(extents, &[16, 15, 13], &[&[16, -15, 0], &[13, 0, -15]], 6)
+fn many_classes(extents: &[i64; 3]) -> Nest {
+    nest::with_extents(extents, &[16, 15, 13], &[&[16, -15, 0], &[13, 0, -15]], 6)
 }
 
 /// Pseudo-random numbers.
@@ -40,7 +40,7 @@ impl Random {
 }
 
 /// A nest that is often accepted.
-fn random_nest(random: &mut Random) -> LoopNest {
+fn random_nest(random: &mut Random) -> Nest {
     let depth = random.between(1, 3) as usize;
     let longest = [0, 500, 40, 12][depth];
     let extents: Vec<i64> = (0..depth).map(|_| random.between(1, longest)).collect();
@@ -55,7 +55,7 @@ fn random_nest(random: &mut Random) -> LoopNest {
         }
     }
     let lists: Vec<&[i64]> = dependences.iter().map(|d| d.as_slice()).collect();
-    let mut nest = LoopNest::new(&extents, &time, &lists, random.between(0, 6));
+    let mut nest = nest::with_extents(&extents, &time, &lists, random.between(0, 6));
     for k in 0..depth {
         let by = random.between(-100, 100);
         nest.lower[k] += by;
@@ -65,7 +65,7 @@ fn random_nest(random: &mut Random) -> LoopNest {
 }
 
 /// Both planners on one nest, with tables of so many entries: whether all answers are equal, and whether it is accepted.
-fn agree(nest: &LoopNest, entries: [usize; 4]) -> (bool, bool) {
+fn agree(nest: &Nest, entries: [usize; 4]) -> (bool, bool) {
     let mut ours = Tables::new(entries);
     let answer = proved::plan(nest, &mut ours);
     let mut same = true;
@@ -115,7 +115,7 @@ fn keep(answer: u8) {
 }
 
 /// Times on one nest: proved plan, plain plan by search, plain plan by hash, proved fill, plain fill.
-fn times(nest: &LoopNest, rounds: usize) -> (usize, Vec<f64>) {
+fn times(nest: &Nest, rounds: usize) -> (usize, Vec<f64>) {
     assert_eq!(agree(nest, [4100; 4]), (true, true), "the planners differ on {nest:?}");
     let mut tables: Vec<Tables> = (0..5).map(|_| Tables::new([4096; 4])).collect();
     let [a, b, c, d, e] = &mut tables[..] else { unreachable!() };

@@ -1,44 +1,25 @@
 //! A loop nest as both planners take it, and the nests that are timed.
 
-/// A loop nest, laid out as the exported functions read it: 45 numbers of 64 bits.
-#[repr(C)]
-#[derive(Clone, Copy, Debug)]
-pub struct LoopNest {
-    pub depth: i64,
-    pub count: i64,
-    pub cube: i64,
-    pub lower: [i64; 3],
-    pub upper: [i64; 3],
-    pub time: [i64; 3],
-    /// Component k of dependence i is at place i * 3 + k.
-    pub dependences: [i64; 24],
-    pub boundary: i64,
-    pub weights: [i64; 8],
-}
+pub use rowlock::Nest;
 
-impl LoopNest {
-    /// A nest with limits 0 to extent - 1 for each loop.
-    pub fn new(extents: &[i64], time: &[i64], dependences: &[&[i64]], cube: i64) -> LoopNest {
-        let mut nest = LoopNest {
-            depth: extents.len() as i64,
-            count: dependences.len() as i64,
-            cube,
-            lower: [0; 3],
-            upper: [0; 3],
-            time: [0; 3],
-            dependences: [0; 24],
-            boundary: 7,
-            weights: [3, 5, 2, 9, 4, 1, 6, 8],
-        };
-        for (k, extent) in extents.iter().enumerate() {
-            nest.upper[k] = extent - 1;
-            nest.time[k] = time[k];
-        }
-        for (i, dependence) in dependences.iter().enumerate() {
-            nest.dependences[i * 3..i * 3 + dependence.len()].copy_from_slice(dependence);
-        }
-        nest
+/// A nest with limits 0 to extent - 1 for each loop.
+pub fn with_extents(extents: &[i64], time: &[i64], dependences: &[&[i64]], cube: i64) -> Nest {
+    let mut nest = Nest {
+        depth: extents.len() as i64,
+        count: dependences.len() as i64,
+        cube,
+        boundary: 7,
+        weights: [3, 5, 2, 9, 4, 1, 6, 8],
+        ..Nest::default()
+    };
+    for (k, extent) in extents.iter().enumerate() {
+        nest.upper[k] = extent - 1;
+        nest.time[k] = time[k];
     }
+    for (i, dependence) in dependences.iter().enumerate() {
+        nest.dependences[i * 3..i * 3 + dependence.len()].copy_from_slice(dependence);
+    }
+    nest
 }
 
 /// The tables and counts of a plan.

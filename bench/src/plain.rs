@@ -3,7 +3,7 @@
 
 use std::collections::HashMap;
 
-use crate::nest::{LoopNest, Tables};
+use crate::nest::{Nest, Tables};
 
 pub type Vector = [i64; 3];
 
@@ -33,7 +33,7 @@ fn gcd(a: i64, b: i64) -> i64 {
 }
 
 /// The number of the first refusal, 2 to 13, or the number of iterations.
-pub fn check(nest: &LoopNest) -> Result<usize, u8> {
+pub fn check(nest: &Nest) -> Result<usize, u8> {
     if !(1..=3).contains(&nest.depth) {
         return Err(2);
     }
@@ -91,7 +91,7 @@ pub struct Loops {
 }
 
 impl Loops {
-    pub fn new(nest: &LoopNest) -> Loops {
+    pub fn new(nest: &Nest) -> Loops {
         let n = nest.depth as usize;
         let first = |xs: &[i64]| {
             let mut v = [0; 3];
@@ -144,7 +144,7 @@ impl Loops {
     }
 
     /// The values of the sequential loop.
-    fn fill(&self, nest: &LoopNest, values: &mut [u16]) {
+    fn fill(&self, nest: &Nest, values: &mut [u16]) {
         let boundary = nest.boundary as u32;
         let sources: Vec<(Vector, i64, u32)> =
             self.dependences.iter().zip(&nest.weights).map(|(d, w)| (*d, dot(*d, self.stride), *w as u32)).collect();
@@ -314,7 +314,7 @@ fn processors(groups: &[Group], cube: i64) -> Vec<u8> {
 }
 
 /// The values of the sequential loop; answers 0 or the number of a refusal.
-pub fn fill(nest: &LoopNest, values: &mut [u16]) -> u8 {
+pub fn fill(nest: &Nest, values: &mut [u16]) -> u8 {
     match check(nest) {
         Err(refusal) => refusal,
         Ok(n) if values.len() < n => 14,
@@ -326,7 +326,7 @@ pub fn fill(nest: &LoopNest, values: &mut [u16]) -> u8 {
 }
 
 /// The plan of a nest; answers 0 or the number of a refusal.
-pub fn plan(nest: &LoopNest, tables: &mut Tables, lookup: Lookup) -> u8 {
+pub fn plan(nest: &Nest, tables: &mut Tables, lookup: Lookup) -> u8 {
     tables.counts = [0; 5];
     let n = match check(nest) {
         Err(refusal) => return refusal,

@@ -4,7 +4,7 @@ use std::hint::black_box;
 use std::time::Instant;
 
 use crate::machine::Machine;
-use crate::nest::{Answer, LoopNest, Move, State, Tables};
+use crate::nest::{Answer, Move, Nest, State, Tables};
 use crate::proved;
 
 /// A list of moves in stretches of one kind, computes and deliveries in turn.
@@ -52,7 +52,7 @@ impl Schedule {
     }
 
     /// Stops unless the proved entry and the plain machine answer every move alike and end in the table of the sequential loop.
-    fn compare(&self, nest: &LoopNest, machine: &Machine, tables: &Tables) {
+    fn compare(&self, nest: &Nest, machine: &Machine, tables: &Tables) {
         let [iterations, _, _, _, messages] = tables.counts;
         let [mut ours, mut theirs] = [State::fresh(iterations), State::fresh(iterations)];
         for request in self.stretches.iter().flatten() {
@@ -90,7 +90,7 @@ impl Times {
 }
 
 /// Times complete runs of a nest by the proved entry and by the plain machine in turn, and prints what they cost.
-pub fn report(name: &str, nest: &LoopNest, rounds: usize) {
+pub fn report(name: &str, nest: &Nest, rounds: usize) {
     let mut tables = Tables::new([4096; 4]);
     assert_eq!(proved::plan(nest, &mut tables), 0, "{name} is accepted");
     let machine = Machine::new(nest).expect("an accepted nest");

@@ -20,27 +20,27 @@ pub struct Contents {
 }
 
 /// A buffer with guards around the lent entries.
-struct Guarded<T> {
+pub struct Guarded<T> {
     entries: Vec<T>,
 }
 
 impl<T: Copy + PartialEq + From<u8>> Guarded<T> {
-    fn new(lent: &[T]) -> Guarded<T> {
+    pub fn new(lent: &[T]) -> Guarded<T> {
         let guards = [T::from(GUARD); GUARDS];
         Guarded { entries: [&guards, lent, &guards].concat() }
     }
 
-    fn lent(&self) -> &[T] {
+    pub fn lent(&self) -> &[T] {
         &self.entries[GUARDS..self.entries.len() - GUARDS]
     }
 
-    fn lent_mut(&mut self) -> &mut [T] {
+    pub fn lent_mut(&mut self) -> &mut [T] {
         let end = self.entries.len() - GUARDS;
         &mut self.entries[GUARDS..end]
     }
 
     /// Whether the guards are as they were.
-    fn is_whole(&self) -> bool {
+    pub fn is_whole(&self) -> bool {
         let (before, rest) = self.entries.split_at(GUARDS);
         let behind = &rest[rest.len() - GUARDS..];
         before.iter().chain(behind).all(|&entry| entry == T::from(GUARD))

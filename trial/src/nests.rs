@@ -24,8 +24,11 @@ const UNUSED: &[i64] = &[0, 0, 1, -1, 77, 4097, i64::MIN, i64::MAX];
 
 /// The numbers of a nest. Places that are no part of it hold anything.
 pub fn numbers_of(random: &mut Random, nest: &LoopNest) -> Numbers {
-    let mut numbers = [0; 45];
-    numbers.iter_mut().for_each(|number| *number = random.pick(UNUSED));
+    numbers_over([0; 45].map(|_| random.pick(UNUSED)), nest)
+}
+
+/// Numbers over which those of a nest are written, each at its place.
+pub fn numbers_over(mut numbers: Numbers, nest: &LoopNest) -> Numbers {
     let mut put = |place: usize, list: &[i64]| {
         numbers[place..place + list.len()].copy_from_slice(list);
     };

@@ -1,16 +1,17 @@
--- The parts of a nest joined, and the answers to a call on numbers. Assumes nothing.
+-- The answers to a call on numbers. Assumes nothing.
 use mathlib.Core.Path.{_≡_, refl, sym, ap, ap₂, _∙_}
 use mathlib.Core.List.{List, [], _∷_}
 use Prim.Native.Nat.{ℕ, zero, suc}
 use native.Mathlib.Omega.{arith}
 use borrow.Author.Tests.{ne-eqb}
-use lib.IntN.{ℤ, pos}
-use lib.ListN.{length, getD}
+use lib.IntN.{ℤ}
+use lib.ListN.{length}
 use Rattle.nest.specs.declared.LoopNest.{LoopNest}
-use Rattle.nest.specs.Nest.{part}
 use Rattle.partition.specs.Partition.{stepsOf, blocksOf}
 use Rattle.mapping.specs.Mapping.{processorsOf}
 use Rattle.sequential.specs.Sequential.{fillRefusal, filled, ruleOf, valuesOf}
+use Rattle.rows.specs.declared.Span.{Span}
+use Rattle.rows.specs.Rows.{rowRefusal, spanOf}
 use Rattle.planner.specs.declared.Planning.{Planning}
 use Rattle.nest.specs.Refusals.{tableAfter}
 use Rattle.planner.specs.Plan.{planRefusal, planAnswer, countsIn}
@@ -19,16 +20,7 @@ use Rattle.execution.specs.declared.Answer.{Answer}
 use Rattle.execution.specs.Rules.{Layout}
 use Rattle.execution.specs.Run.{State, moveEffect, moveAnswer, moveAfter}
 use Rattle.execution.specs.Entry.{moveOf, numberOf, answerOf}
-use Rattle.exports.specs.Exports.{nestIn, madeIn}
-
--- a nest made of the parts of numbers
-pub joined-nest : (xs : List ℤ) (depth count cube boundary : ℤ) (lower upper time dependences weights : List ℤ)
-    → depth ≡ getD xs 0 (pos 0) → count ≡ getD xs 1 (pos 0) → cube ≡ getD xs 2 (pos 0) → lower ≡ part xs 3 3 → upper ≡ part xs 6 3 → time ≡ part xs 9 3
-    → dependences ≡ part xs 12 24 → boundary ≡ getD xs 36 (pos 0) → weights ≡ part xs 37 8
-    → _≡_ {A = LoopNest} (record { depth = depth; count = count; cube = cube; lower = lower; upper = upper; time = time; dependences = dependences; boundary = boundary; weights = weights }) (nestIn xs)
-unfolding nestIn
-joined-nest xs depth count cube boundary lower upper time dependences weights p q r s t u v w x =
-    λ i. record { depth = p i; count = q i; cube = r i; lower = s i; upper = t i; time = u i; dependences = v i; boundary = w i; weights = x i }
+use Rattle.numbers.specs.Numbers.{spanIn, madeIn}
 
 -- a filled table, where the nest is known
 pub filled-from : (s n : LoopNest) (r : ℕ) (old new : List ℕ) → s ≡ n → r ≡ fillRefusal s (length old) → new ≡ filled s old
@@ -58,6 +50,22 @@ module _ (s n : LoopNest) (a : Planning) (steps blocks processors values : List 
 -- a table, where the nest is known
 pub table-from : (f : LoopNest → List ℕ) (s n : LoopNest) (k : ℕ) (old new : List ℕ) → s ≡ n → new ≡ tableAfter k (f s) old → new ≡ tableAfter k (f n) old
 table-from f s n k old new e p = p ∙ ap (λ (z : LoopNest). tableAfter k (f z) old) e
+
+-- the number that a span holds
+span-number : (s : LoopNest) (entries : ℕ) (i : ℤ) → spanOf s entries i .refusal ≡ rowRefusal s entries i
+unfolding spanOf
+span-number s entries i = by (rowRefusal s entries i) refl
+  where
+    by : (k : ℕ) → rowRefusal s entries i ≡ k → spanOf s entries i .refusal ≡ rowRefusal s entries i
+    by zero e = rw (spanOf, e) refl
+    by (suc k) e = rw (spanOf, e, ne-eqb (suc k) 0 (λ q. absurd (omega arith))) e
+
+-- where the row of an index that is known lies, of a nest that is known
+pub located-from : (s n : LoopNest) (entries : ℕ) (i known : ℤ) (r : Span) → s ≡ n → i ≡ known → r ≡ spanOf s entries i
+    → (r .refusal ≡ rowRefusal n entries known) × (spanIn r ≡ spanIn (spanOf n entries known))
+located-from s n entries i known r e q p =
+    let h : r ≡ spanOf n entries known = p ∙ ap₂ (λ (z : LoopNest) (k : ℤ). spanOf z entries k) e q in
+    (ap (λ (z : Span). z .refusal) h ∙ span-number n entries known, ap spanIn h)
 
 -- a move on a nest that is known, by a request that is known
 pub move-from : (s n : LoopNest) (what known : asked.Move) (L : Layout) (st st′ : State ℕ) (r : Answer) (k : ℕ) (made : List ℕ) → s ≡ n → what ≡ known

@@ -1,76 +1,90 @@
-// The entries `plan`, `fill` and `make_move` for callers in C and Rust, as a static library. A nest is lent as its 45 numbers in the order of LoopNest's fields, which
-// is how C lays out a struct of them:
+// The entries on numbers and slices, for callers in C and Rust, as a static library. include/rowlock.h has their prototypes, and says what the pointers have to be.
 //
-//     struct rowlock_nest {
-//         int64_t depth, count, cube;
-//         int64_t lower[3], upper[3], time[3];
-//         int64_t dependences[24]; /* component k of dependence i at place i * 3 + k */
-//         int64_t boundary, weights[8];
-//     };
-use execution::Answer;
-use execution::Delivery;
-use execution::Move;
+// A nest is lent as its 45 numbers. What an entry answers beside its number (counts, lengths, a span, a nest that was read) is stored through a reference of its own, zeros where
+// the call is refused: it is a part of the answer. `rows::row` answers a part of a lent table, which C cannot take: `rowlock_locate` says where that part lies.
 use execution::Request;
-use nest::LoopNest;
+use numbers::NUMBERS;
+use numbers::made_in;
+use numbers::move_in;
+use numbers::nest_in;
+use numbers::number_of;
+use numbers::numbers_of;
 ghost use mathlib.Core.Path.{_≡_};
-ghost use Prim.Native.Nat.{_+_, _≤_};
 ghost use lib.ListN.{length};
-ghost use Rattle.nest.specs.Nest.{part};
-ghost use Rattle.nest.specs.Refusals.{tableAfter};
+ghost use Rattle.nest.specs.Refusals.{refusal, iterations, tableAfter};
+ghost use Rattle.nest_text.specs.Text.{textOf, readRefusal, readNest, writeRefusal, writtenLength, written};
+ghost use Rattle.rows.specs.Rows.{rowRefusal, spanOf};
 ghost use Rattle.partition.specs.Partition.{stepsOf, blocksOf};
 ghost use Rattle.mapping.specs.Mapping.{processorsOf};
 ghost use Rattle.sequential.specs.Sequential.{valuesOf, ruleOf, fillRefusal, filled};
 ghost use Rattle.planner.specs.Plan.{planRefusal, planAnswer, countsIn};
+ghost use Rattle.planner.specs.Listing.{planText};
 ghost use Rattle.execution.specs.Run.{moveEffect, moveAnswer, moveAfter};
-ghost use Rattle.execution.specs.Entry.{layoutIn, stateIn, moveOf, numberOf, answerOf};
-ghost use Rattle.exports.specs.Exports.{nestIn, moveIn, madeIn};
-
-// How many numbers a nest has.
-const NUMBERS: usize = 45;
+ghost use Rattle.execution.specs.Entry.{layoutIn, stateIn, moveOf, answerOf};
+ghost use Rattle.numbers.specs.Numbers.{nestIn, numbersOf, spanIn, moveIn, madeIn};
 
 // How many counts a plan has.
 const COUNTS: usize = 5;
 
-// Fills an array with numbers, from place `from` of a longer one on.
-fn copy(out: &mut [i64], numbers: &[i64], from: usize)
-    requires { ⌜ from + length (now out) ≤ length (now numbers) ⌝ }
-    ensures { λ _. ⌜ now (out .exit) ≡ part (now (numbers .entry)) from (length (now (out .entry))) ⌝ }
+// The number of a nest's first refusal, 2 to 13, or 0.
+#[no_mangle]
+pub extern "C" fn rowlock_check(numbers: &[i64; NUMBERS]) -> u8
+    ensures { λ r. ⌜ r ≡ refusal (nestIn (now (numbers .entry))) ⌝ }
 {
-    for k in 0..out.len() {
-        out[k] = numbers[from + k];
-    }
+    nest::check(nest_in(numbers))
 }
 
-// The nest that 45 numbers are.
-fn nest_in(numbers: &[i64; NUMBERS]) -> LoopNest
-    ensures { λ r. ⌜ r ≡ nestIn (now (numbers .entry)) ⌝ }
+// The same, with the number of iterations of an accepted nest; 0 for a refused one.
+#[no_mangle]
+pub extern "C" fn rowlock_inspect(numbers: &[i64; NUMBERS], n: &mut usize) -> u8
+    ensures { λ r. ⌜ r ≡ refusal (nestIn (now (numbers .entry))) ⌝ }
+    ensures { λ r. ⌜ now (n .exit) ≡ iterations (nestIn (now (numbers .entry))) ⌝ }
 {
-    let mut lower = [0i64; LoopNest::MAX_DEPTH];
-    copy(&mut lower, numbers, 3);
-    let mut upper = [0i64; LoopNest::MAX_DEPTH];
-    copy(&mut upper, numbers, 6);
-    let mut time = [0i64; LoopNest::MAX_DEPTH];
-    copy(&mut time, numbers, 9);
-    let mut dependences = [0i64; LoopNest::MAX_DEPTH * LoopNest::MAX_DEPENDENCES];
-    copy(&mut dependences, numbers, 12);
-    let mut weights = [0i64; LoopNest::MAX_DEPENDENCES];
-    copy(&mut weights, numbers, 37);
-    LoopNest {
-        depth: numbers[0],
-        count: numbers[1],
-        cube: numbers[2],
-        lower: lower,
-        upper: upper,
-        time: time,
-        dependences: dependences,
-        boundary: numbers[36],
-        weights: weights,
-    }
+    let known = nest::inspect(nest_in(numbers));
+    *n = known.iterations;
+    known.refusal
 }
 
-// The values of the sequential loop into a lent table; answers 0, or the number of the first refusal, 2 to 14, with no entry changed.
-//
-//     uint8_t rowlock_fill(const struct rowlock_nest *nest, uint16_t *values, size_t values_length);
+// A nest from its text: 0 with the nest, unused places 0; or the number of the first refusal, 1 to 13, with a nest of zeros.
+#[no_mangle]
+pub extern "C" fn rowlock_read(text: &[u8], numbers: &mut [i64; NUMBERS]) -> u8
+    ensures { λ r. ⌜ r ≡ readRefusal (now (text .entry)) ⌝ }
+    ensures { λ r. ⌜ now (numbers .exit) ≡ numbersOf (readNest (now (text .entry))) ⌝ }
+{
+    let reading = nest_text::read(text);
+    *numbers = numbers_of(reading.nest);
+    reading.refusal
+}
+
+// The text of a nest into a lent buffer, and how many bytes it has; or the number of the first refusal, 2 to 14, with 0 bytes and the buffer as it was.
+#[no_mangle]
+pub extern "C" fn rowlock_write(numbers: &[i64; NUMBERS], out: &mut [u8], bytes: &mut usize) -> u8
+    ensures { λ r. ⌜ r ≡ writeRefusal (refusal (nestIn (now (numbers .entry)))) (textOf (nestIn (now (numbers .entry)))) (length (now (out .entry))) ⌝ }
+    ensures { λ r. ⌜ now (bytes .exit) ≡ writtenLength (refusal (nestIn (now (numbers .entry)))) (textOf (nestIn (now (numbers .entry)))) (length (now (out .entry))) ⌝ }
+    ensures { λ r. ⌜ now (out .exit) ≡ written (refusal (nestIn (now (numbers .entry)))) (textOf (nestIn (now (numbers .entry)))) (now (out .entry)) ⌝ }
+{
+    let writing = nest_text::write(nest_in(numbers), out);
+    *bytes = writing.length;
+    writing.refusal
+}
+
+// Where the row of an outermost index lies in a table of so many entries, by its start and its length; or the number of the first refusal, 2 to 14, then 19, with zeros.
+#[no_mangle]
+pub extern "C" fn rowlock_locate(
+    numbers: &[i64; NUMBERS],
+    entries: usize,
+    index: i64,
+    span: &mut [usize; 2],
+) -> u8
+    ensures { λ r. ⌜ r ≡ rowRefusal (nestIn (now (numbers .entry))) entries index ⌝ }
+    ensures { λ r. ⌜ now (span .exit) ≡ spanIn (spanOf (nestIn (now (numbers .entry))) entries index) ⌝ }
+{
+    let at = rows::locate(nest_in(numbers), entries, index);
+    *span = [at.start, at.length];
+    at.refusal
+}
+
+// The values of the sequential loop into a lent table; or the number of the first refusal, 2 to 14, with the table as it was.
 #[no_mangle]
 pub extern "C" fn rowlock_fill(numbers: &[i64; NUMBERS], values: &mut [u16]) -> u8
     ensures { λ r. ⌜ r ≡ fillRefusal (nestIn (now (numbers .entry))) (length (now (values .entry))) ⌝ }
@@ -79,11 +93,8 @@ pub extern "C" fn rowlock_fill(numbers: &[i64; NUMBERS], values: &mut [u16]) -> 
     sequential::fill(nest_in(numbers), values)
 }
 
-// The plan of a nest into four lent tables, and its counts (iterations, steps, blocks, processors that hold an iteration, messages); answers 0, or the
-// number of the first refusal, 2 to 14, with every count 0 and no table changed.
-//
-//     uint8_t rowlock_plan(const struct rowlock_nest *nest, uint32_t *steps, size_t steps_length, uint16_t *blocks, size_t blocks_length,
-//                          uint8_t *processors, size_t processors_length, uint16_t *values, size_t values_length, size_t counts[5]);
+// The plan of a nest into four lent tables, and its counts (iterations, steps, blocks, processors that hold an iteration, messages); or the number of the
+// first refusal, 2 to 14, with every count 0 and the tables as they were.
 #[no_mangle]
 pub extern "C" fn rowlock_plan(
     numbers: &[i64; NUMBERS],
@@ -111,48 +122,22 @@ pub extern "C" fn rowlock_plan(
     answer.refusal
 }
 
-// The move that numbers ask for.
-fn move_in(kind: usize, first: usize, second: usize) -> Move
-    ensures { λ r. ⌜ r ≡ moveIn kind first second ⌝ }
+// The plan of a nest as text, from the nest's text into a lent buffer, and how many bytes it has; or the number of the first refusal, 1 to 14, with 0 bytes and
+// the buffer as it was.
+#[no_mangle]
+pub extern "C" fn rowlock_list(text: &[u8], out: &mut [u8], bytes: &mut usize) -> u8
+    ensures { λ r. ⌜ r ≡ writeRefusal (readRefusal (now (text .entry))) (planText (readNest (now (text .entry)))) (length (now (out .entry))) ⌝ }
+    ensures { λ r. ⌜ now (bytes .exit) ≡ writtenLength (readRefusal (now (text .entry))) (planText (readNest (now (text .entry)))) (length (now (out .entry))) ⌝ }
+    ensures { λ r. ⌜ now (out .exit) ≡ written (readRefusal (now (text .entry))) (planText (readNest (now (text .entry)))) (now (out .entry)) ⌝ }
 {
-    if kind == 0 {
-        return Move::Compute(first);
-    }
-    Move::Deliver(Delivery {
-        rank: first,
-        dependence: second,
-    })
-}
-
-// The number of an answer: 0 for a move that is made.
-fn number_of(answer: Answer) -> u8
-    ensures { λ r. ⌜ r ≡ numberOf answer ⌝ }
-{
-    match answer {
-        Answer::Computed(c) => 0,
-        Answer::Delivered(d) => 0,
-        Answer::Refused(number) => number,
-    }
-}
-
-// What an answer carries.
-fn made_in(answer: Answer) -> [usize; 2]
-    ensures { λ r. ⌜ r ≡ madeIn answer ⌝ }
-{
-    match answer {
-        Answer::Computed(c) => [c.rank, c.value as usize],
-        Answer::Delivered(d) => [d.rank, d.dependence],
-        Answer::Refused(number) => [0, 0],
-    }
+    let listing = planner::list(text, out);
+    *bytes = listing.length;
+    listing.refusal
 }
 
 // Makes a move on the tables of a plan and on a state, all of any content: kind 0 is a compute on processor `first`, any other a delivery for rank `first` along dependence number `second`.
 // Answers 0, or the number of the refusal, 2 to 18, with no buffer of the state changed. `made` has the rank and the value of the iteration computed, or the rank and the dependence
 // number of the message delivered; zeros where refused.
-//
-//     uint8_t rowlock_move(const struct rowlock_nest *nest, size_t kind, size_t first, size_t second, const uint32_t *steps, size_t steps_length,
-//                          const uint8_t *processors, size_t processors_length, uint16_t *values, size_t values_length, uint8_t *done, size_t done_length,
-//                          uint8_t *delivered, size_t delivered_length, size_t made[2]);
 #[no_mangle]
 pub extern "C" fn rowlock_move(
     numbers: &[i64; NUMBERS],

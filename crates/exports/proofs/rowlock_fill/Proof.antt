@@ -1,6 +1,6 @@
 -- `rowlock_fill` meets its contract: it is `fill` of the nest that the numbers are. Assumes nothing.
 use borrow.Author.Needs.{needs}
-use Rattle.exports.specs.Exports.{nestIn}
+use Rattle.numbers.specs.Numbers.{nestIn}
 use Rattle.exports.proofs.Joined.{filled-from}
 use Rattle.exports.proofs.rowlock_fill.Statement.{statement}
 use Rattle.exports.proofs.rowlock_fill.Tie as tie

@@ -1,7 +1,7 @@
 -- `rowlock_move` meets its contract: it is `make_move` of the nest and the move that the numbers are, with what was done stored. Assumes nothing.
 use borrow.Author.Needs.{needs}
 use Rattle.execution.specs.Entry.{layoutIn, stateIn}
-use Rattle.exports.specs.Exports.{nestIn, moveIn}
+use Rattle.numbers.specs.Numbers.{nestIn, moveIn}
 use Rattle.exports.proofs.Joined.{move-from}
 use Rattle.exports.proofs.rowlock_move.Statement.{statement}
 use Rattle.exports.proofs.rowlock_move.Tie as tie

@@ -3,7 +3,7 @@ use borrow.Author.Needs.{needs}
 use Rattle.partition.specs.Partition.{stepsOf, blocksOf}
 use Rattle.mapping.specs.Mapping.{processorsOf}
 use Rattle.sequential.specs.Sequential.{valuesOf}
-use Rattle.exports.specs.Exports.{nestIn}
+use Rattle.numbers.specs.Numbers.{nestIn}
 use Rattle.exports.proofs.Joined.{number-from, counts-from, table-from}
 use Rattle.exports.proofs.rowlock_plan.Statement.{statement}
 use Rattle.exports.proofs.rowlock_plan.Tie as tie

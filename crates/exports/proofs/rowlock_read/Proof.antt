@@ -1,0 +1,21 @@
+-- `rowlock_read` meets its contract: it is `read`, with the numbers of the nest stored. Assumes nothing.
+use borrow.Author.Needs.{needs}
+use mathlib.Core.Path.{ap, _∙_}
+use Rattle.nest_text.specs.declared.Reading.{Reading}
+use Rattle.numbers.specs.Numbers.{numbersOf}
+use Rattle.exports.proofs.rowlock_read.Statement.{statement}
+use Rattle.exports.proofs.rowlock_read.Tie as tie
+
+read-requires : tie.Need-read-requires
+read-requires c κs = search needs
+
+numbers-of-requires : tie.Need-numbers-of-requires
+numbers-of-requires c κs = search needs
+
+returns : tie.Need-returns
+returns c =
+    let e = c .before .read .ensures in
+    (ap (λ (z : Reading). z .refusal) e, c .numbers-of .ensures ∙ ap (λ (z : Reading). numbersOf (z .nest)) e)
+
+pub rowlock-read-spec : {M : Type 1} → statement M
+rowlock-read-spec = tie.close (tie.spec read-requires numbers-of-requires returns)

@@ -1,0 +1,17 @@
+-- `move_in` makes the move that the numbers ask for. Assumes nothing.
+use mathlib.Core.Path.{refl}
+use borrow.Author.Tests.{eq-eqb, ne-eqb}
+use Rattle.numbers.specs.Numbers.{moveIn}
+use Rattle.numbers.proofs.moves.move_in.Statement.{statement}
+use Rattle.numbers.proofs.moves.move_in.Tie as tie
+
+returns : tie.Need-returns
+unfolding moveIn
+returns c = rw (moveIn, eq-eqb (c .before .args .kind) 0 (c .if1 .taken)) refl
+
+returns-2 : tie.Need-returns-2
+unfolding moveIn
+returns-2 c = rw (moveIn, ne-eqb (c .before .args .kind) 0 (c .if1 .left)) refl
+
+pub move-in-spec : {M : Type 1} → statement M
+move-in-spec = tie.close (tie.spec returns returns-2)

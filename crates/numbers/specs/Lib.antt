@@ -1,0 +1,2 @@
+-- What is lent and answered, as numbers in a row.
+pub mod Numbers

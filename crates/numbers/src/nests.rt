@@ -1,0 +1,92 @@
+// A nest as 45 numbers in a row, in the order of LoopNest's fields.
+use nest::LoopNest;
+ghost use mathlib.Core.Path.{_≡_};
+ghost use Prim.Native.Nat.{_+_, _≤_};
+ghost use lib.ListN.{length};
+ghost use lib.Seq.{sets};
+ghost use Rattle.nest.specs.Nest.{part};
+ghost use Rattle.numbers.specs.Numbers.{nestIn, numbersOf};
+
+// How many numbers a nest has.
+pub const NUMBERS: usize = 45;
+
+// How many numbers its dependences have.
+const COMPONENTS: usize = LoopNest::MAX_DEPTH * LoopNest::MAX_DEPENDENCES;
+
+// Where the parts of a nest begin; the depth, the number of dependences and the cube dimension stand before them.
+const LOWER: usize = 3;
+
+const UPPER: usize = 6;
+
+const TIME: usize = 9;
+
+const DEPENDENCES: usize = 12;
+
+const BOUNDARY: usize = 36;
+
+const WEIGHTS: usize = 37;
+
+// Copies n numbers, from place `from` of one array on, to place `at` of another and those behind it.
+fn copy(out: &mut [i64], at: usize, numbers: &[i64], from: usize, n: usize)
+    requires { ⌜ (at + n ≤ length (now out)) × (from + n ≤ length (now numbers)) ⌝ }
+    ensures { λ _. ⌜ now (out .exit) ≡ sets (now (out .entry)) at (part (now (numbers .entry)) from n) ⌝ }
+{
+    for k in 0..n {
+        out[at + k] = numbers[from + k];
+    }
+}
+
+// The nest that 45 numbers are.
+pub fn nest_in(numbers: &[i64; NUMBERS]) -> LoopNest
+    ensures { λ r. ⌜ r ≡ nestIn (now (numbers .entry)) ⌝ }
+{
+    let mut lower = [0i64; LoopNest::MAX_DEPTH];
+    copy(&mut lower, 0, numbers, LOWER, LoopNest::MAX_DEPTH);
+    let mut upper = [0i64; LoopNest::MAX_DEPTH];
+    copy(&mut upper, 0, numbers, UPPER, LoopNest::MAX_DEPTH);
+    let mut time = [0i64; LoopNest::MAX_DEPTH];
+    copy(&mut time, 0, numbers, TIME, LoopNest::MAX_DEPTH);
+    let mut dependences = [0i64; COMPONENTS];
+    copy(&mut dependences, 0, numbers, DEPENDENCES, COMPONENTS);
+    let mut weights = [0i64; LoopNest::MAX_DEPENDENCES];
+    copy(&mut weights, 0, numbers, WEIGHTS, LoopNest::MAX_DEPENDENCES);
+    LoopNest {
+        depth: numbers[0],
+        count: numbers[1],
+        cube: numbers[2],
+        lower: lower,
+        upper: upper,
+        time: time,
+        dependences: dependences,
+        boundary: numbers[BOUNDARY],
+        weights: weights,
+    }
+}
+
+// The 45 numbers of a nest.
+pub fn numbers_of(s: LoopNest) -> [i64; NUMBERS]
+    ensures { λ r. ⌜ r ≡ numbersOf s ⌝ }
+{
+    let mut numbers = [0i64; NUMBERS];
+    let shape = [s.depth, s.count, s.cube];
+    copy(&mut numbers, 0, &shape, 0, 3);
+    let lower = s.lower;
+    copy(&mut numbers, LOWER, &lower, 0, LoopNest::MAX_DEPTH);
+    let upper = s.upper;
+    copy(&mut numbers, UPPER, &upper, 0, LoopNest::MAX_DEPTH);
+    let time = s.time;
+    copy(&mut numbers, TIME, &time, 0, LoopNest::MAX_DEPTH);
+    let dependences = s.dependences;
+    copy(&mut numbers, DEPENDENCES, &dependences, 0, COMPONENTS);
+    let boundary = s.boundary;
+    numbers[BOUNDARY] = boundary;
+    let weights = s.weights;
+    copy(
+        &mut numbers,
+        WEIGHTS,
+        &weights,
+        0,
+        LoopNest::MAX_DEPENDENCES,
+    );
+    numbers
+}
