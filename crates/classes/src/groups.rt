@@ -2,11 +2,12 @@
 use grouping::Frame;
 ghost use mathlib.Core.Path.{_≡_};
 ghost use mathlib.Core.Bool.{true};
+ghost use mathlib.Core.List.{_++_, map};
 ghost use Prim.Native.Nat.{ℕ, _+_, _*_, _<_, _≤_};
 ghost use lib.IntN.{ℤ, natAbs};
-ghost use lib.ListN.{length, getD};
+ghost use lib.ListN.{length, getD, drop};
 ghost use Rattle.integers.specs.Lists.{place, firsts};
-ghost use Rattle.integers.specs.Vector.{minus, zeros, AllWithin};
+ghost use Rattle.integers.specs.Vector.{minus, zeros, eqV, AllWithin};
 ghost use Rattle.numbering.specs.Tables.{row, rows};
 ghost use Rattle.grouping.specs.Projection.{projection};
 ghost use Rattle.grouping.specs.Basis.{Framed, inOneClass, residueOf, residues, ClassRows, Keyed, basisFrame, Grouped};
@@ -165,4 +166,30 @@ pub fn key_table(
         i += 1;
     }
     k
+}
+
+// Groups and blocks of the n points: the group of each into a row of `keys`, and the number of its block, by first equal row, into `blocks`. Before that both hold
+// what is needed for the classes: residues and class numbers. Answers how many blocks there are.
+pub fn group_points(
+    f: Frame,
+    r: usize,
+    points: &[i64],
+    v: [i64; 4],
+    back: usize,
+    n: usize,
+    keys: &mut [i64],
+    blocks: &mut [u16],
+) -> usize
+    requires { ⌜ Framed (f .p) (f .count) (f .v1) (f .v2) (f .v3) (f .f1) (f .f2) (f .f3) (f .d) ⌝ }
+    requires { ⌜ (1 ≤ r) × (r ≤ 1000000) × (n ≤ 4096) × (n * 4 ≤ length (now points)) × (n * 4 ≤ length (now keys)) × (n ≤ length (now blocks)) ⌝ }
+    requires { ⌜ AllWithin 1000 (now points) ⌝ }
+    requires { ⌜ projection (f .p) v ≡ zeros 4 ⌝ }
+    ensures { λ k. ⌜ k ≡ length (firsts eqV (rows (now (keys .exit)) n)) ⌝ }
+    ensures { λ k. ⌜ now (blocks .exit) ≡ map (λ x. place (eqV x) (firsts eqV (rows (now (keys .exit)) n))) (rows (now (keys .exit)) n) ++ drop n (now (blocks .entry)) ⌝ }
+    ensures { λ k. ⌜ Grouped (basisFrame (f .p) (f .count) (f .v1) (f .v2) (f .v3) r) (f .count) (now (points .entry)) n (now (keys .entry)) (now (keys .exit)) ⌝ }
+{
+    class_rows(f, points, v, back, n, keys);
+    numbering::number_table(keys, back, n, blocks);
+    key_table(f, r, points, v, back, blocks, n, keys);
+    numbering::number_table(keys, back, n, blocks)
 }

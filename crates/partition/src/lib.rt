@@ -18,7 +18,7 @@ ghost use Rattle.partition.specs.Partition.{blocksOf, blockCount};
 ghost use Rattle.partition.specs.GroupRows.{GroupTable};
 
 // The blocks of the n iterations of an accepted nest: for each iteration its group into a row of `keys` (class, q and the other coordinates), and the
-// number of its block into `blocks`. Before that both hold what is needed for the classes: residues and class numbers. Answers how many blocks there are.
+// number of its block into `blocks`. Answers how many blocks there are.
 pub fn blocks_into(s: LoopNest, n: usize, keys: &mut [i64], blocks: &mut [u16]) -> usize
     requires { ⌜ (refusal s ≡ 0) × (n ≡ length (pointsOf s)) × (n * 4 ≤ length (now keys)) × (n ≤ length (now blocks)) ⌝ }
     ensures { λ r. ⌜ r ≡ blockCount s ⌝ }
@@ -32,8 +32,5 @@ pub fn blocks_into(s: LoopNest, n: usize, keys: &mut [i64], blocks: &mut [u16]) 
     let p = f.p;
     let line = line_of(p, &points, n);
     let v = line.vector;
-    classes::class_rows(f, &points, v, line.back, n, keys);
-    numbering::number_table(keys, line.back, n, blocks);
-    classes::key_table(f, r, &points, v, line.back, blocks, n, keys);
-    numbering::number_table(keys, line.back, n, blocks)
+    classes::group_points(f, r, &points, v, line.back, n, keys, blocks)
 }
