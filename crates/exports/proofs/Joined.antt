@@ -7,9 +7,7 @@ use borrow.Author.Tests.{ne-eqb}
 use lib.IntN.{ℤ}
 use lib.ListN.{length}
 use Rattle.nest.specs.declared.LoopNest.{LoopNest}
-use Rattle.partition.specs.Partition.{stepsOf, blocksOf}
-use Rattle.mapping.specs.Mapping.{processorsOf}
-use Rattle.sequential.specs.Sequential.{fillRefusal, filled, ruleOf, valuesOf}
+use Rattle.sequential.specs.Sequential.{fillRefusal, filled, ruleOf}
 use Rattle.rows.specs.declared.Span.{Span}
 use Rattle.rows.specs.Rows.{rowRefusal, spanOf}
 use Rattle.planner.specs.declared.Planning.{Planning}

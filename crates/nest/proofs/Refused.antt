@@ -1,18 +1,16 @@
 -- A number is answered exactly if its condition holds and none before it does; a nest is accepted exactly if no condition holds.
 -- Assumes nothing.
 use mathlib.Core.Path.{_≡_, refl, sym, ap, subst, _∙_}
-use mathlib.Core.Bool.{Bool, true, false, _&&_}
+use mathlib.Core.Bool.{true, false}
 use mathlib.Core.Logic.{_⊎_, inl, inr, _↔_}
-use mathlib.Core.List.{List, [], _∷_, _++_, List·Memᴰ, List·Memᴰ·head, List·Memᴰ·tail}
-use Prim.Native.Nat.{ℕ, zero, suc, _<_, _≤_}
-use native.Mathlib.Nat.{not-suc-le-zero, le-of-suc-le-suc}
+use mathlib.Core.List.{List, [], _∷_, List·Memᴰ, List·Memᴰ·head, List·Memᴰ·tail}
+use Prim.Native.Nat.{_<_}
 use native.Mathlib.Omega.{arith}
 use borrow.Author.Tests.{ltb-true}
-use lib.Dec.{ltb, lit<}
-use lib.ListN.{length, getD}
+use lib.Dec.{ltb}
 use Rattle.integers.specs.Lists.{and-true, clash, split}
 use Rattle.nest.specs.declared.LoopNest.{LoopNest}
-use Rattle.nest.specs.Refusals.{Refusal, badDepth, badCount, badCube, badLimits, tooManyPoints, badTime, badDependence, backwardDependence, equalDependences, againstTime, zeroTime, badWeight, number, headerOrder, bodyOrder, holds, firstMet, refusal, Condition}
+use Rattle.nest.specs.Refusals.{Refusal, number, holds, firstMet, refusal, Condition}
 use Rattle.nest.proofs.FirstMet.{allAbove, ascending, above-mem, order, in-order, listed, not-zero, met, passed}
 use Rattle.nest.proofs.Words.{test-words, words-test}
 

@@ -2,14 +2,14 @@
 -- document's words. `Refused` in proofs/ shows that test and words agree, and that a number is answered exactly if its condition is the first met.
 -- Assumes nothing.
 use mathlib.Core.Path.{_≡_}
-use mathlib.Core.Bool.{Bool, true, false, not, _&&_, _||_}
+use mathlib.Core.Bool.{Bool, true, false, _||_}
 use mathlib.Core.List.{List, [], _∷_, _++_}
 use mathlib.Core.Logic.{_⊎_, _↔_}
 use Prim.Native.Nat.{ℕ, zero, suc, _+_, _<_, _≤_}
 use lib.Dec.{ltb, eqb, leb}
 use lib.IntN.{ℤ, pos, negℤ}
 use lib.ListN.{length, getD, drop}
-use lib.Signed.{leZ, ltZ, _≤ℤ_, _<ℤ_}
+use lib.Signed.{ltZ, _<ℤ_}
 use Rattle.integers.specs.Lists.{any, repeats}
 use Rattle.integers.specs.Vector.{Vector, dots, eqZ, eqV}
 use Rattle.nest.specs.declared.LoopNest.{LoopNest}

@@ -1,8 +1,6 @@
 -- The refusals of calls that write into a lent buffer: a number is answered exactly if its condition is met and none before it is.
 -- Assumes nothing.
-use mathlib.Core.Path.{_≡_}
-use mathlib.Core.Logic.{_⊎_}
-use Prim.Native.Nat.{ℕ, _<_}
+use Prim.Native.Nat.{ℕ}
 use lib.ListN.{length}
 use Rattle.nest.specs.declared.LoopNest.{LoopNest}
 use Rattle.nest.specs.Refusals.{refusal, FirstOf}

@@ -11,7 +11,7 @@ use lib.ListN.{length, getD}
 use Rattle.integers.specs.Lists.{tab, and-true, true-T, map-tab}
 use Rattle.nest.specs.declared.LoopNest.{LoopNest}
 use Rattle.nest.specs.Nest.{part, depthOf, countOf, limitAt, limitsOf, timeOf, dependenceAt, dependencesOf, weightsOf, cleared, maxDepth}
-use Rattle.nest.specs.Refusals.{firstMet, headerOrder, bodyOrder, refusal}
+use Rattle.nest.specs.Refusals.{firstMet, headerOrder, refusal}
 use Rattle.nest.proofs.FirstMet.{accepted-header}
 use Rattle.nest_text.specs.declared.Reading.{Reading}
 use Rattle.nest_text.specs.Fields.{Bytes, fieldOf}
@@ -21,7 +21,7 @@ use Rattle.nest_text.specs.Stored.{InColumns}
 use Rattle.nest_text.specs.Form.{Consists, Whole}
 use Rattle.nest_text.proofs.WriteLaws.{field-length}
 use Rattle.nest.proofs.Spans.{Spans, spans, HeaderSpans, header-spans}
-use Rattle.nest.proofs.Refused.{accepted, none-of}
+use Rattle.nest.proofs.Refused.{accepted}
 use Rattle.nest_text.proofs.TextLength.{shapeLine, shape-columns, limits-columns, time-columns, dependence-columns, boundary-columns, weight-columns}
 use Rattle.nest_text.proofs.LineBack.{AllInColumns, LinesInColumns, LineRead, all-tab, line-read, lines-read, line-again, lines-again, lines-widths, numbers-length, consists-written, written-consists}
 use Rattle.nest_text.proofs.ReadLaws.{same-shape, header-checked, header-zero, whole-passed, header-form, header-fits, rest-form, rest-checked}

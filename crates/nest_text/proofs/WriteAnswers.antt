@@ -8,7 +8,7 @@ use native.Mathlib.Omega.{arith}
 use borrow.Author.Tests.{eq-eqb, ne-eqb}
 use lib.ListN.{length, drop}
 use lib.Seq.{sets, sets-eq}
-use Rattle.nest.specs.Refusals.{orElse, shortBuffer}
+use Rattle.nest.specs.Refusals.{shortBuffer}
 use Rattle.nest.proofs.Entries.{orElse-first, orElse-second, long-enough, too-short, same-table, made-table}
 use Rattle.nest_text.specs.declared.Writing.{Writing}
 use Rattle.nest_text.specs.Fields.{Bytes}

@@ -1,14 +1,13 @@
 -- Laws of what the writer leaves in a buffer: bytes stored one run after the other, and the lengths of fields and lines.
 -- Assumes nothing.
 use mathlib.Core.Path.{_≡_, refl, sym, ap, subst, _∙_}
-use mathlib.Core.List.{List, [], _∷_, _++_, map, flatMap, append-assoc, append-nil}
+use mathlib.Core.List.{List, [], _∷_, _++_, flatMap, append-assoc}
 use Prim.Native.Nat.{ℕ, zero, suc, _+_, _*_, _-_, _≤_, _<_}
-use native.Mathlib.Nat.{mul-suc}
 use native.Mathlib.Omega.{arith}
 use lib.IntN.{ℤ, pos, negsuc}
 use lib.ListN.{length, getD, take, drop, set, replicate, length-append, length-replicate}
 use lib.Seq.{sets, length-sets, sets-eq}
-use Rattle.integers.specs.Lists.{tab, tab-more, flatMap-tab-more, flatMap-length}
+use Rattle.integers.specs.Lists.{tab, flatMap-tab-more, flatMap-length}
 use Rattle.nest.specs.Nest.{part}
 use Rattle.nest_text.specs.Fields.{Bytes, textOf, fieldOf, newline}
 use Rattle.nest_text.specs.Text.{line}

@@ -1,5 +1,5 @@
 -- A number in six columns: spaces, an optional minus, digits; no leading zero, no minus zero.
-use mathlib.Core.Bool.{Bool, true, false, _&&_, cond}
+use mathlib.Core.Bool.{Bool, true, _&&_, cond}
 use mathlib.Core.List.{List, [], _∷_, _++_}
 use Prim.Native.Nat.{ℕ, zero, suc, _+_, _*_, _-_, _/_, _%_}
 use lib.IntN.{ℤ, pos, negsuc, negℤ}

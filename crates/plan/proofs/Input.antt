@@ -8,7 +8,7 @@ use lib.IntN.{pos}
 use lib.ListN.{take}
 use Rattle.nest.specs.declared.LoopNest.{LoopNest}
 use Rattle.nest_text.specs.Fields.{Bytes}
-use Rattle.nest_text.specs.Text.{line, readRefusal, readNest}
+use Rattle.nest_text.specs.Text.{line}
 use Rattle.nest_text.proofs.ReadPrefix.{readMost, read-prefix}
 use Rattle.planner.specs.Listing.{planText, listing}
 

@@ -1,18 +1,18 @@
 -- What `list` leaves in a buffer with room for the longest listing, and what is printed of it. Assumes nothing.
 use mathlib.Core.Path.{_≡_, refl, sym, ap, subst, _∙_}
-use mathlib.Core.Bool.{Bool, true, false}
-use mathlib.Core.List.{List, [], _∷_, _++_}
-use Prim.Native.Nat.{ℕ, _+_, _*_, _<_, _≤_}
+use mathlib.Core.Bool.{true, false}
+use mathlib.Core.List.{[], _∷_, _++_}
+use Prim.Native.Nat.{ℕ, _+_, _≤_}
 use native.Mathlib.Nat.{zero-add}
 use native.Mathlib.Omega.{arith}
 use borrow.Author.Tests.{eq-eqb, ne-eqb, eqb-true, eqb-false}
 use lib.Dec.{eqb}
 use lib.IntN.{pos}
-use lib.ListN.{length, drop, take}
+use lib.ListN.{length, drop}
 use lib.Seq.{sets-eq, length-take-le}
 use Rattle.io.specs.Counts.{Counts}
 use Rattle.integers.specs.Lists.{split}
-use Rattle.nest.specs.Refusals.{orElse, shortBuffer}
+use Rattle.nest.specs.Refusals.{shortBuffer}
 use Rattle.nest.proofs.Accepted.{few-points}
 use Rattle.nest.proofs.Entries.{orElse-second, orElse-first, long-enough, same-table, made-table}
 use Rattle.nest_text.specs.declared.Writing.{Writing}

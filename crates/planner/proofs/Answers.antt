@@ -1,7 +1,7 @@
 -- The refusals of `plan` and `list`: a number is answered exactly if its condition is met and none before it is.
 -- Assumes nothing.
 use mathlib.Core.Path.{_≡_}
-use Prim.Native.Nat.{ℕ, _≤_}
+use Prim.Native.Nat.{ℕ}
 use native.Mathlib.Omega.{arith}
 use lib.ListN.{length}
 use Rattle.nest.specs.declared.LoopNest.{LoopNest}

@@ -1,8 +1,8 @@
 -- Nests with the same parts have the same plan; so places of the struct that are no part of a nest change nothing that `plan` answers or writes.
 -- Assumes nothing.
-use mathlib.Core.Path.{_≡_, ap, _∙_}
-use mathlib.Core.List.{List, [], _∷_, map}
-use Prim.Native.Nat.{ℕ, _+_}
+use mathlib.Core.Path.{_≡_, ap}
+use mathlib.Core.List.{[], _∷_, map}
+use Prim.Native.Nat.{_+_}
 use lib.Dec.{eqb}
 use lib.ListN.{length}
 use Rattle.integers.specs.Lists.{tab, count, greatest, firsts}
@@ -10,7 +10,7 @@ use Rattle.nest.specs.declared.LoopNest.{LoopNest}
 use Rattle.nest.specs.Nest.{toℕ, cleared}
 use Rattle.nest.specs.Refusals.{refusal}
 use Rattle.nest.proofs.Places.{SameParts, same-points, same-source, accepted-same}
-use Rattle.grouping.specs.Grouping.{Group, frame, seeds, group, blocks, blockNumber}
+use Rattle.grouping.specs.Grouping.{frame, seeds, group, blocks, blockNumber}
 use Rattle.partition.specs.Partition.{step, stepsOf, stepCount, frameOf, groupsOf, blocksOf, blockCount}
 use Rattle.mapping.specs.Mapping.{undealt, dealt, directionsOf, processor, processorsOf, processorCount, crosses, isMessage, total, messageCount}
 use Rattle.sequential.specs.Sequential.{valuesOf}

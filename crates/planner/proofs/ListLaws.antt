@@ -3,13 +3,13 @@ use mathlib.Core.Path.{_≡_, refl, sym, ap, ap₂, subst, _∙_}
 use mathlib.Core.List.{List, [], _∷_, _++_, map, flatMap}
 use Prim.Native.Nat.{ℕ, _+_, _*_, _<_, _≤_}
 use native.Mathlib.Omega.{arith}
-use lib.IntN.{ℤ, pos}
+use lib.IntN.{pos}
 use lib.ListN.{length, getD, drop, length-append, List·getD-append}
 use lib.Seq.{sets}
 use Rattle.integers.specs.Lists.{tab, tab-same}
 use Rattle.nest.specs.declared.LoopNest.{LoopNest}
 use Rattle.nest.specs.Points.{pointsOf}
-use Rattle.nest.specs.Refusals.{refusal, orElse}
+use Rattle.nest.specs.Refusals.{refusal}
 use Rattle.nest.proofs.Accepted.{few-points}
 use Rattle.nest.proofs.Entries.{orElse-second, made-table}
 use Rattle.nest_text.specs.Fields.{Bytes}
@@ -27,7 +27,7 @@ use Rattle.planner.specs.Rows.{rowOf}
 use Rattle.planner.specs.Listing.{planLines, planText}
 use Rattle.planner.proofs.LineLaws.{lines-behind, nth-small, counts-length}
 use Rattle.planner.proofs.PlanLaws.{Planned, number, none-short, values-length, accepted-number}
-use Rattle.planner.proofs.Sizes.{counts-small, rowNumbers}
+use Rattle.planner.proofs.Sizes.{counts-small}
 
 -- a table that starts with n entries has them at its first places
 front : (n : ℕ) (table rest all : List ℕ) → length table ≡ n → all ≡ table ++ rest → (k : ℕ) → k < n → getD all k 0 ≡ getD table k 0

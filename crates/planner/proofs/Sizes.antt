@@ -1,12 +1,12 @@
 -- Every number of an accepted nest's plan is below 1000000, so that six columns hold it and the plan's text has 31 bytes a line. Assumes nothing.
-use mathlib.Core.Path.{_≡_, refl, sym, ap, subst, _∙_}
-use mathlib.Core.Bool.{Bool, true, false}
-use mathlib.Core.List.{List, [], _∷_, _++_, map, flatMap, append-nil}
-use Prim.Native.Nat.{ℕ, zero, suc, _+_, _*_, _%_, _<_, _≤_}
+use mathlib.Core.Path.{_≡_, refl, ap, subst, _∙_}
+use mathlib.Core.Bool.{Bool}
+use mathlib.Core.List.{List, [], _∷_, map, flatMap, append-nil}
+use Prim.Native.Nat.{ℕ, _+_, _*_, _<_, _≤_}
 use native.Mathlib.Nat.{mul-le-mul}
 use native.Mathlib.Omega.{arith}
 use lib.Dec.{eqb}
-use lib.IntN.{ℤ, pos}
+use lib.IntN.{pos}
 use lib.ListN.{length, getD, length-append}
 use Rattle.integers.specs.Lists.{any, tab, length-tab, count, firsts, firstsAfter, flatMap-length, split}
 use Rattle.nest.specs.declared.LoopNest.{LoopNest}
@@ -16,7 +16,7 @@ use Rattle.nest.specs.Refusals.{refusal}
 use Rattle.nest.proofs.Accepted.{few-points, count-is}
 use Rattle.nest_text.specs.Text.{line}
 use Rattle.grouping.specs.Grouping.{eqG, blocks}
-use Rattle.partition.specs.Partition.{stepsOf, stepCount, groupsOf, blocksOf, blockCount}
+use Rattle.partition.specs.Partition.{stepsOf, groupsOf, blocksOf, blockCount}
 use Rattle.partition.proofs.Theorems.{step-few, steps-few, block-below}
 use Rattle.mapping.specs.Mapping.{processorsOf, processorCount, isMessage, messageCount}
 use Rattle.mapping.proofs.Messages.{count-most, total-most}

@@ -1,20 +1,20 @@
 -- How many points of a nest have a smaller outermost index, and how many have that index: multiples of the number of points of the inner loops.
 -- Assumes nothing.
-use mathlib.Core.Path.{_≡_, refl, sym, ap, ap₂, subst, _∙_}
+use mathlib.Core.Path.{_≡_, refl, sym, ap, _∙_}
 use mathlib.Core.Bool.{Bool, true, false}
 use mathlib.Core.Logic.{⊎-elim}
-use mathlib.Core.List.{List, [], _∷_, _++_, map, flatMap}
+use mathlib.Core.List.{List, [], _∷_, map, flatMap}
 use Prim.Native.Nat.{ℕ, zero, suc, _+_, _*_, _-_, _<_, _≤_, min}
 use native.Mathlib.Nat as NatL
 use native.Mathlib.Omega.{arith}
 use borrow.Author.Tests.{lt-ltb, le-ltb, eqb-true, eqb-false}
 use lib.Dec.{ltb, eqb}
-use lib.IntN.{ℤ, pos, negsuc, _+ℤ_, _-ℤ_}
-use lib.ListN.{length, getD}
+use lib.IntN.{ℤ, pos, _+ℤ_, _-ℤ_}
+use lib.ListN.{length}
 use lib.Signed.{_≤ℤ_, _<ℤ_, ltZ}
-use Rattle.integers.specs.Linear.{up, ints, part, sum, dif}
+use Rattle.integers.specs.Linear.{ints, sum}
 use Rattle.integers.specs.Tests.{signed}
-use Rattle.integers.specs.Lists.{count, tab, split, below-or-not, count-yes, count-no, count-append, T-true, tab-more}
+use Rattle.integers.specs.Lists.{count, tab, split, below-or-not, count-yes, count-no, count-append, T-true}
 use Rattle.integers.specs.Vector.{Vector, eqZ, eqZ-same, eqZ-other}
 use Rattle.nest.specs.Nest.{Limit, toℕ}
 use Rattle.nest.specs.Points.{extent, indices, points, pointCount}

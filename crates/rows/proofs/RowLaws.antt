@@ -1,24 +1,23 @@
 -- Where the row of an index lies: its start, its length, and that it is exactly the iterations with that outermost index.
 -- Assumes nothing.
-use mathlib.Core.Path.{_≡_, refl, sym, ap, ap₂, subst, _∙_}
-use mathlib.Core.Bool.{Bool, true, false, _||_}
-use mathlib.Core.Logic.{_⊎_, inl, inr, ⊎-elim, _↔_}
-use mathlib.Core.List.{List, [], _∷_, _++_, append-assoc}
+use mathlib.Core.Path.{_≡_, refl, sym, ap, subst, _∙_}
+use mathlib.Core.Bool.{false}
+use mathlib.Core.Logic.{_⊎_, ⊎-elim, _↔_}
+use mathlib.Core.List.{List, [], _∷_}
 use Prim.Native.Nat.{ℕ, zero, suc, _+_, _*_, _/_, _<_, _≤_}
 use native.Mathlib.Nat as NatL
 use native.Mathlib.Omega.{arith}
-use lib.IntN.{ℤ, pos, negsuc, _+ℤ_, _-ℤ_}
+use lib.IntN.{ℤ, pos, _+ℤ_, _-ℤ_}
 use lib.ListN.{length, getD}
-use lib.Signed.{_≤ℤ_, ltZ, ltZ-no}
+use lib.Signed.{_≤ℤ_, ltZ}
 use Rattle.integers.specs.Linear.{ints, sum}
-use Rattle.integers.specs.Lists.{tab, or-false, count, clash, below-or-not, tab-cons}
-use Rattle.integers.specs.Tests.{signed}
-use Rattle.integers.specs.Vector.{Vector, eqZ}
+use Rattle.integers.specs.Lists.{tab, count, below-or-not, tab-cons}
+use Rattle.integers.specs.Vector.{eqZ}
 use Rattle.nest.specs.declared.LoopNest.{LoopNest}
-use Rattle.nest.specs.Nest.{Limit, toℕ, limitAt, limitsOf, depthOf, maxDepth}
+use Rattle.nest.specs.Nest.{Limit, toℕ, limitAt, limitsOf, depthOf}
 use Rattle.nest.specs.Points.{extent, points, pointsOf, pointCount}
 use Rattle.nest.specs.Refusals.{refusal, outside, limit}
-use Rattle.nest.proofs.Order.{point-count, point-at, index-of, index-within, places, Places}
+use Rattle.nest.proofs.Order.{point-count, point-at, index-of, places, Places}
 use Rattle.nest.proofs.Accepted.{depth-is, some-points}
 use Rattle.nest.proofs.Conditions.{in-span}
 use Rattle.nest.proofs.Counted.{extent-distance}

@@ -1,7 +1,7 @@
 -- `reach_in` meets its contract. The loop's invariant: the two numbers are the least and the greatest of the first k rows. Assumes nothing.
 use borrow.Author.Needs.{needs}
 use mathlib.Core.Path.{_≡_, sym, ap, ap₂, _∙_}
-use Prim.Native.Nat.{ℕ, _+_, _*_, _-_, _≤_}
+use Prim.Native.Nat.{_+_, _*_, _-_, _≤_}
 use native.Mathlib.Omega.{arith}
 use lib.IntN.{ℤ, pos, _-ℤ_}
 use lib.ListN.{getD}
@@ -9,7 +9,6 @@ use mir.Syntax.{w64}
 use mir.Val.{toZ}
 use Rattle.integers.specs.Bounds.{told}
 use Rattle.integers.specs.Lists.{tab}
-use Rattle.integers.specs.Machine.{reads}
 use Rattle.integers.specs.Extremes.{leastZ, greatestZ, lesserZ, maxZ}
 use Rattle.nest.specs.Nest.{toℕ}
 use Rattle.mapping.specs.Keys.{keyAt, column, spanOf}

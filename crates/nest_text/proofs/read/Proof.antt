@@ -1,5 +1,5 @@
 -- `read` answers the first refusal of a text, or its nest.
-use mathlib.Core.Path.{_≡_, refl, sym, ap, _∙_}
+use mathlib.Core.Path.{_≡_, sym, ap, _∙_}
 use borrow.Author.Tests.{not-true, not-false}
 use Rattle.integers.specs.Bounds.{told}
 use Rattle.nest.specs.Nest.{toℕ, depthOf, countOf}

@@ -1,17 +1,14 @@
 -- `locate` meets its contract: one law of `SpanLaws` for each way out. Assumes nothing.
 use borrow.Author.Needs.{needs}
-use mathlib.Core.Path.{_≡_, refl, sym, ap, ap₂, _∙_}
-use mathlib.Core.Bool.{true, false}
-use Prim.Native.Nat.{ℕ, _+_, _*_, _/_, _≤_, _<_}
-use native.Mathlib.Nat.{mul-le-mul}
+use mathlib.Core.Path.{_≡_, sym, ap, ap₂, _∙_}
+use mathlib.Core.Bool.{false}
+use Prim.Native.Nat.{_+_, _*_, _/_, _≤_}
 use native.Mathlib.Omega.{arith}
-use lib.IntN.{ℤ, pos, natAbs, _-ℤ_}
-use lib.ListN.{length, getD}
-use lib.Signed.{_≤ℤ_}
+use lib.IntN.{ℤ, natAbs, _-ℤ_}
+use lib.ListN.{length}
 use mir.Facts.{toZ-ofZ}
 use Rattle.integers.specs.Bounds.{told}
 use Rattle.integers.specs.Machine.{reads}
-use Rattle.nest.specs.declared.LoopNest.{LoopNest}
 use Rattle.nest.specs.declared.Inspection.{Inspection}
 use Rattle.nest.specs.Nest.{toℕ}
 use Rattle.nest.specs.Points.{pointsOf}
@@ -22,7 +19,7 @@ use Rattle.integers.specs.Linear.{ints, sizes}
 use Rattle.nest.proofs.Conditions.{Uncrossed, uncrossed, in-span}
 use Rattle.nest.proofs.Entries.{iterations-are}
 use Rattle.rows.specs.declared.Span.{Span}
-use Rattle.rows.specs.Rows.{rowStart, rowLength, spanOf}
+use Rattle.rows.specs.Rows.{rowStart, rowLength}
 use Rattle.rows.proofs.RowLaws.{start-at, length-at, width-is, row-fits}
 use Rattle.rows.proofs.SpanLaws.{bad-nest, short-table, no-row, found-row}
 use Rattle.rows.proofs.locate.Statement.{statement}
