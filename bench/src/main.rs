@@ -132,12 +132,8 @@ fn times(nest: &Nest, rounds: usize) -> (usize, Vec<f64>) {
     (tables[0].counts[0], least)
 }
 
-fn main() {
-    let quick = std::env::args().nth(1).as_deref() == Some("quick");
-    let scale = if quick { 1 } else { 10 };
-    let (nests, accepted) = compare(1000);
-    println!("equal tables and counts on {nests} nests, {accepted} of them accepted\n");
-
+/// The times of `plan` and `fill` beside the plain ones, a line a nest.
+fn report_nests(scale: usize) {
     println!("least times in microseconds; 'search' and 'hash' say how the plain planner finds classes\n");
     println!(
         "{:<26} {:>9} {:>9} {:>9} {:>7} {:>7} {:>9} {:>9} {:>7}",
@@ -162,7 +158,10 @@ fn main() {
             t[3] / t[4]
         );
     }
+}
 
+/// How the time of an iteration changes with their number.
+fn report_sizes(scale: usize) {
     println!("\nnanoseconds an iteration\n");
     println!("{:<26} {:>10} {:>9} {:>9} {:>9} {:>9} {:>9}", "nest", "iterations", "plan", "search", "hash", "fill", "plain");
     let sizes = [
@@ -177,6 +176,14 @@ fn main() {
             println!("{name:<26} {n:>10} {:>9.1} {:>9.1} {:>9.1} {:>9.1} {:>9.1}", each[0], each[1], each[2], each[3], each[4]);
         }
     }
+}
 
+fn main() {
+    let quick = std::env::args().nth(1).as_deref() == Some("quick");
+    let scale = if quick { 1 } else { 10 };
+    let (nests, accepted) = compare(1000);
+    println!("equal tables and counts on {nests} nests, {accepted} of them accepted\n");
+    report_nests(scale);
+    report_sizes(scale);
     runs::report("L1, 64 x 64", &l1(64), 2 * scale);
 }

@@ -34,14 +34,9 @@ fn gcd(a: i64, b: i64) -> i64 {
 
 /// The number of the first refusal, 2 to 13, or the number of iterations.
 pub fn check(nest: &Nest) -> Result<usize, u8> {
-    if !(1..=3).contains(&nest.depth) {
-        return Err(2);
-    }
-    if !(1..=8).contains(&nest.count) {
-        return Err(3);
-    }
-    if !(0..=6).contains(&nest.cube) {
-        return Err(4);
+    let shape = [(1, 3, nest.depth), (1, 8, nest.count), (0, 6, nest.cube)];
+    if let Some(k) = shape.iter().position(|(low, high, x)| !(low..=high).contains(&x)) {
+        return Err(2 + k as u8);
     }
     let n = nest.depth as usize;
     let m = nest.count as usize;
@@ -53,6 +48,15 @@ pub fn check(nest: &Nest) -> Result<usize, u8> {
     if iterations > 4096 {
         return Err(6);
     }
+    check_vectors(nest, n, m)?;
+    if !(0..=65535).contains(&nest.boundary) || nest.weights[..m].iter().any(|w| !(0..=255).contains(w)) {
+        return Err(13);
+    }
+    Ok(iterations as usize)
+}
+
+/// The refusals 7 to 12, of n loops and m dependences.
+fn check_vectors(nest: &Nest, n: usize, m: usize) -> Result<(), u8> {
     let span = -16..=16;
     let time = &nest.time[..n];
     if time.iter().any(|x| !span.contains(x)) {
@@ -74,10 +78,7 @@ pub fn check(nest: &Nest) -> Result<usize, u8> {
     if time.iter().all(|x| *x == 0) {
         return Err(12);
     }
-    if !(0..=65535).contains(&nest.boundary) || nest.weights[..m].iter().any(|w| !(0..=255).contains(w)) {
-        return Err(13);
-    }
-    Ok(iterations as usize)
+    Ok(())
 }
 
 /// An accepted nest with three loops.

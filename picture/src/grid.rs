@@ -46,7 +46,7 @@ const LAYER_TITLE: f64 = 24.0;
 #[derive(Clone, Debug)]
 pub struct Grid {
     /// The side of an iteration's square.
-    pub cell: f64,
+    pub side: f64,
     /// From one column to the next, and from one row to the next.
     pub across: f64,
     pub down: f64,
@@ -69,11 +69,11 @@ impl Grid {
         let longest = extents[1].max(extents[2]);
         let labelled = plan.entries.len() <= MOST_LABELLED && longest <= LONGEST_LABELLED;
         let layered = plan.nest.depth == 3;
-        let (cell, across, down) = measures(labelled, layered, longest);
+        let (side, across, down) = measures(labelled, layered, longest);
         let places = plan.iterations.points.iter().map(|point| place_of(point, lower)).collect();
         let layers_in_band = (BAND / layer_width(across, extents[2])) as usize;
         let layers_in_band = layers_in_band.clamp(1, extents[0]);
-        Grid { cell, across, down, labelled, layered, extents, lower, layers_in_band, places }
+        Grid { side, across, down, labelled, layered, extents, lower, layers_in_band, places }
     }
 
     pub fn place(&self, rank: usize) -> Place {
@@ -126,7 +126,7 @@ impl Grid {
 
     /// Room above the first row, for lines that pass over it and for the name of the rows' index.
     pub fn above_rows(&self) -> f64 {
-        ((self.down - self.cell) / 2.0).max(14.0)
+        ((self.down - self.side) / 2.0).max(14.0)
     }
 }
 

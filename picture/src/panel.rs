@@ -79,6 +79,6 @@ fn iteration(plan: &Plan, grid: &Grid, rank: usize) -> Element {
     let title = Element::new("title").saying(&words::iteration(plan, rank));
     let labels = squares::labels(centre, &plan.entries[rank]);
     Element::group("iteration")
-        .holding([title, squares::square(centre, grid.cell)])
+        .holding([title, squares::square(centre, grid.side)])
         .holding(labels.into_iter().filter(|_| grid.labelled))
 }

@@ -77,7 +77,7 @@ fn bow(grid: &Grid, from: Point, to: Point, bows: bool) -> Route {
 fn outside(grid: &Grid, centre: Point, towards: Point) -> Point {
     let (right, down) = (towards.x - centre.x, towards.y - centre.y);
     let length = (right * right + down * down).sqrt();
-    let half = grid.cell / 2.0;
+    let half = grid.side / 2.0;
     // The corners are round, so they are nearer than those of a square.
     let reach = (half * length / right.abs().max(down.abs())).min(1.25 * half) + clearance(grid);
     Point { x: centre.x + right / length * reach, y: centre.y + down / length * reach }
@@ -85,18 +85,18 @@ fn outside(grid: &Grid, centre: Point, towards: Point) -> Point {
 
 /// The room between a square and the lines that end at it.
 fn clearance(grid: &Grid) -> f64 {
-    grid.cell / 16.0
+    grid.side / 16.0
 }
 
 /// A line from the top of one square to the top of another at the same height, in the room above
 /// their row.
 fn arch(grid: &Grid, from: Point, to: Point, share: f64) -> Route {
-    let top = from.y - grid.cell / 2.0 - clearance(grid);
-    let beside = grid.cell / 4.0;
+    let top = from.y - grid.side / 2.0 - clearance(grid);
+    let beside = grid.side / 4.0;
     let from = Point { x: from.x + beside, y: top };
     let to = Point { x: to.x - beside, y: top };
     // A curve rises to three quarters of the height of its bends.
-    let rise = (grid.down - grid.cell) * (0.35 + 0.55 * share) / 0.75;
+    let rise = (grid.down - grid.side) * (0.35 + 0.55 * share) / 0.75;
     // The slant at the ends leads the eye into the arrow's head.
     let slant = rise.min((to.x - from.x) / 3.0);
     let bends =
@@ -107,11 +107,11 @@ fn arch(grid: &Grid, from: Point, to: Point, share: f64) -> Route {
 /// A line from a square to one in a higher or lower row of another layer, upright at both ends.
 fn sweep(grid: &Grid, from: Point, to: Point) -> Route {
     let downwards = if to.y > from.y { 1.0 } else { -1.0 };
-    let edge = downwards * (grid.cell / 2.0 + clearance(grid));
-    let beside = grid.cell / 4.0;
+    let edge = downwards * (grid.side / 2.0 + clearance(grid));
+    let beside = grid.side / 4.0;
     let from = Point { x: from.x + beside, y: from.y + edge };
     let to = Point { x: to.x - beside, y: to.y - edge };
-    let bend = downwards * (to.y - from.y).abs().max(grid.down - grid.cell) / 2.0;
+    let bend = downwards * (to.y - from.y).abs().max(grid.down - grid.side) / 2.0;
     let bends = vec![Point { x: from.x, y: from.y + bend }, Point { x: to.x, y: to.y - bend }];
     Route { from, bends, to }
 }

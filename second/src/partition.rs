@@ -62,14 +62,10 @@ impl Partition {
             iterations.points.iter().map(|point| projection(nest, point)).collect();
         let (projected_points, projected_point_of) = numbered_by_first(&projections);
         let (seeds, classes) = classes(&chosen, &projected_points);
-        let groups: Vec<Group> = projected_points
-            .iter()
-            .zip(&classes)
-            .map(|(point, &class)| {
-                let coordinates = coordinates(&chosen, point, &seeds[class]);
-                group(class, &coordinates, grouping, group_size)
-            })
-            .collect();
+        let group_of = |(point, &class): (&Vector, &usize)| {
+            group(class, &coordinates(&chosen, point, &seeds[class]), grouping, group_size)
+        };
+        let groups: Vec<Group> = projected_points.iter().zip(&classes).map(group_of).collect();
         let groups_of_iterations: Vec<Group> =
             projected_point_of.iter().map(|&point| groups[point].clone()).collect();
         let (block_groups, blocks) = numbered_by_first(&groups_of_iterations);

@@ -1,7 +1,7 @@
 // What a move finds in lent tables: the iteration that a processor takes, the sources that are there, the messages that can be delivered.
 use nest::LoopNest;
 ghost use mathlib.Core.Path.{_≡_};
-ghost use mathlib.Core.Bool.{false, not};
+ghost use mathlib.Core.Bool.{false};
 ghost use mathlib.Core.List.{[]};
 ghost use mathlib.Core.Option.{Option, some};
 ghost use Prim.Native.Nat.{ℕ, _+_, _^_, _<_, _≤_};

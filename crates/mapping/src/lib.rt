@@ -12,9 +12,8 @@ ghost use Rattle.integers.specs.Lists.{tab, count, firsts};
 ghost use Rattle.nest.specs.Nest.{toℕ, countOf, padded, maxDepth, maxCube, maxIterations};
 ghost use Rattle.nest.specs.Points.{pointsOf};
 ghost use Rattle.nest.specs.Refusals.{refusal};
-ghost use Rattle.integers.specs.Extremes.{leastZ, greatestZ};
 ghost use Rattle.mapping.specs.Mapping.{nextTurn, dealt, gray, partOf, joined, isMessage, total};
-ghost use Rattle.mapping.specs.Keys.{rowLength, maxKey, valuesIn, Keyed, column, spanOf, directionsIn, processorsIn, held, Fits, bitsIn, Dealt, oneIf};
+ghost use Rattle.mapping.specs.Keys.{maxKey, valuesIn, Keyed, column, spanOf, directionsIn, processorsIn, held, Fits, bitsIn, Dealt, oneIf};
 
 // Numbers a row of the table of keys: class, q, b, and one that is not read here.
 const ROW: usize = 4;

@@ -1,14 +1,14 @@
 // A loop nest held as numbers (document 01: sheet), its spans, its refusals 2 to 13, and its index points.
 ghost use mathlib.Core.Path.{_≡_};
-ghost use mathlib.Core.Bool.{true, false, _||_};
+ghost use mathlib.Core.Bool.{true, false};
 ghost use Prim.Native.Nat.{ℕ, _+_, _*_, _<_, _≤_};
-ghost use lib.IntN.{ℤ, pos, negℤ, natAbs, _+ℤ_, _-ℤ_};
+ghost use lib.IntN.{pos, natAbs, _+ℤ_, _-ℤ_};
 ghost use lib.Signed.{ltZ, _≤ℤ_};
 ghost use mathlib.Core.List.{[]};
 ghost use lib.ListN.{length, getD, set};
 ghost use Rattle.integers.specs.Lists.{any, repeats, tab};
-ghost use Rattle.integers.specs.Vector.{dots, eqZ, eqV};
-ghost use Rattle.nest.specs.Nest.{emptyNest, withComponent, padded, part, toℕ, depthOf, countOf, limitAt, limitsOf, timeOf, dependenceAt, dependencesOf, weightsOf, maxDepth, maxDependences, maxCube, maxLimit, maxIterations, maxComponent, maxBoundary, maxWeight};
+ghost use Rattle.integers.specs.Vector.{dots, eqV};
+ghost use Rattle.nest.specs.Nest.{emptyNest, withComponent, padded, part, toℕ, depthOf, countOf, limitAt, dependenceAt, maxDepth, maxDependences, maxCube, maxLimit, maxIterations, maxComponent, maxBoundary, maxWeight};
 ghost use Rattle.nest.specs.Points.{extent, points, pointsOf, pointCount, rank, isPoint, source};
 ghost use Rattle.nest.specs.Refusals.{outside, crossed, outOfSpan, backward, refusal, firstMet, headerOrder, limitOrder, vectorOrder, weightOrder, iterations, dependence};
 

@@ -1,7 +1,7 @@
 -- Texts that a reader of document 01 would try, with the answers that it gives, as one table; `answers-are` checks all of it on the definitions, by computation.
 -- Assumes nothing.
 use mathlib.Core.Path.{_≡_, refl}
-use mathlib.Core.Bool.{Bool, true, false, not, _&&_, _||_}
+use mathlib.Core.Bool.{true}
 use mathlib.Core.List.{List, [], _∷_, _++_, flatMap}
 use Prim.Native.Nat.{ℕ, _+_}
 use Prim.Native.Char.{code}
