@@ -13,7 +13,7 @@ use lib.ListN.{length}
 use Rattle.integers.specs.Lists.{split, clash, below-or-not}
 use Rattle.nest.specs.declared.LoopNest.{LoopNest}
 use Rattle.nest.specs.Nest.{toℕ, depthOf, countOf, emptyNest}
-use Rattle.nest.specs.Refusals.{Refusal, badDepth, badCount, badCube, badLimits, tooManyPoints, badTime, badDependence, backwardDependence, equalDependences, againstTime, zeroTime, badWeight, number, holds, firstMet, headerOrder, refusal, Condition}
+use Rattle.nest.specs.Refusals.{Refusal, badDepth, badCount, badCube, badLimits, tooManyPoints, badTime, badDependence, backwardDependence, equalDependences, againstTime, zeroTime, badWeight, number, holds, firstMet, headerOrder, refusal, Condition, First}
 use Rattle.nest.proofs.FirstMet.{not-zero, met, passed, at-header}
 use Rattle.nest.proofs.Refused.{answered, accepted-iff, answers}
 use Rattle.nest.proofs.Spans.{header-spans}
@@ -22,7 +22,7 @@ use Rattle.nest_text.specs.declared.Reading.{Reading}
 use Rattle.nest_text.specs.Fields.{Bytes}
 use Rattle.nest_text.specs.Text.{isLine, behind, areLines, headerWidth, widths, headed, headerOf, widthsOf, bodyOf, readRefusal, readNest}
 use Rattle.nest_text.specs.Reader.{headerRefusal}
-use Rattle.nest_text.specs.Form.{Begins, Consists, Whole, First, ReadSays, line-malformed, line-refused, rest-malformed, nest-refused, nest-accepted}
+use Rattle.nest_text.specs.Form.{Begins, Consists, Whole, ReadSays, line-malformed, line-refused, rest-malformed, nest-refused, nest-accepted}
 use Rattle.nest_text.proofs.LineBack.{lines-iff, read-begins, begins-read}
 use Rattle.nest_text.proofs.ReadLaws.{header-malformed, header-checked, header-answers, whole-refused, shape-kept, rest-malformed as rest-is-malformed}
 use Rattle.nest_text.proofs.RoundTrip.{read-written, text-answered, header-is, whole-text, body-whole}

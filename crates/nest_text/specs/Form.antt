@@ -8,7 +8,7 @@ use lib.IntN.{ℤ, pos, negℤ}
 use lib.ListN.{length, getD, replicate}
 use Rattle.nest.specs.declared.LoopNest.{LoopNest}
 use Rattle.nest.specs.Nest.{toℕ, cleared, emptyNest}
-use Rattle.nest.specs.Refusals.{Refusal, number, Condition}
+use Rattle.nest.specs.Refusals.{Refusal, number, Condition, First}
 use Rattle.nest_text.specs.Fields.{Bytes, newline}
 use Rattle.nest_text.specs.Text.{linesOf, widths, headed}
 
@@ -63,10 +63,6 @@ Consists bs (zs ∷ ls) = (rest : Bytes) × Begins bs zs rest × Consists rest l
 pub record Whole (bs : Bytes) (s : LoopNest) : Type 0 where
   pub lines-are : Consists bs (linesOf s)
   pub other-places : cleared s ≡ s
-
--- condition r is met, and none before it
-abbrev pub First : LoopNest → Refusal → Type 0
-First s r = Condition s r × ((q : Refusal) → number q < number r → Condition s q → ⊥)
 
 -- what reading answers: a number, and a nest, which is 0 in every place where the text is refused
 pub data ReadSays (bs : Bytes) : ℕ → LoopNest → Type 0 where
