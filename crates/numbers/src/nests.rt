@@ -7,24 +7,24 @@ ghost use lib.Seq.{sets};
 ghost use Rattle.nest.specs.Nest.{part};
 ghost use Rattle.numbers.specs.Numbers.{nestIn, numbersOf};
 
-// How many numbers a nest has.
-pub const NUMBERS: usize = 45;
-
 // How many numbers its dependences have.
 const COMPONENTS: usize = LoopNest::MAX_DEPTH * LoopNest::MAX_DEPENDENCES;
 
 // Where the parts of a nest begin; the depth, the number of dependences and the cube dimension stand before them.
 const LOWER: usize = 3;
 
-const UPPER: usize = 6;
+const UPPER: usize = LOWER + LoopNest::MAX_DEPTH;
 
-const TIME: usize = 9;
+const TIME: usize = UPPER + LoopNest::MAX_DEPTH;
 
-const DEPENDENCES: usize = 12;
+const DEPENDENCES: usize = TIME + LoopNest::MAX_DEPTH;
 
-const BOUNDARY: usize = 36;
+const BOUNDARY: usize = DEPENDENCES + COMPONENTS;
 
-const WEIGHTS: usize = 37;
+const WEIGHTS: usize = BOUNDARY + 1;
+
+// How many numbers a nest has.
+pub const NUMBERS: usize = WEIGHTS + LoopNest::MAX_DEPENDENCES;
 
 // Copies n numbers, from place `from` of one array on, to place `at` of another and those behind it.
 fn copy(out: &mut [i64], at: usize, numbers: &[i64], from: usize, n: usize)

@@ -4,6 +4,7 @@ ghost use mathlib.Core.List.{[], _∷_, map, flatMap};
 ghost use Prim.Native.Nat.{ℕ, _+_, _*_, _<_, _≤_};
 ghost use lib.IntN.{pos};
 ghost use lib.ListN.{length, getD};
+ghost use Rattle.nest.specs.Nest.{maxIterations};
 ghost use Rattle.integers.specs.Lists.{tab};
 ghost use Rattle.nest_text.specs.Text.{line};
 ghost use Rattle.nest_text.specs.Stored.{Stored};
@@ -60,7 +61,7 @@ pub fn put_rows(
     processors: &[u8],
     values: &[u16],
 ) -> usize
-    requires { ⌜ (at + 31 * n ≤ length (now out)) × (n ≤ 4096) ⌝ }
+    requires { ⌜ (at + 31 * n ≤ length (now out)) × (n ≤ maxIterations) ⌝ }
     requires { ⌜ (n ≤ length (now steps)) × (n ≤ length (now blocks)) × (n ≤ length (now processors)) × (n ≤ length (now values)) ⌝ }
     requires { ⌜ ((k : ℕ) → k < n → getD (now steps) k 0 < 1000000) ⌝ }
     ensures { λ r. ⌜ Stored (now (out .entry)) at (flatMap line (tab (rowOf (now (steps .entry)) (now (blocks .entry)) (now (processors .entry)) (now (values .entry))) n)) (now (out .exit)) r ⌝ }

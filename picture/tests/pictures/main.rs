@@ -10,23 +10,9 @@ use picture::page;
 use picture::plan::Plan;
 use xml::Node;
 
-/// Document 01's listing in full, P2.
-const P2_SHEET: &str = "     2     2     1
-     0     1
-     0     2
-     1     1
-     0     1
-     1     0
-     1     2     3
-";
-const P2_LISTING: &str = "     6     4     3     2     2
-     0     0     0     0     5
-     1     1     0     0    14
-     2     2     1     1    33
-     3     1     2     0    20
-     4     2     0     0    86
-     5     3     0     0   276
-";
+/// Document 01's listing in full, P2: the sheet of the examples, and what the planning program has to print for it.
+const P2_SHEET: &str = include_str!("../../../examples/sheet.txt");
+const P2_LISTING: &str = include_str!("../../../crates/plan/stdout");
 
 /// A text of six-column fields.
 fn text(lines: &[&[i64]]) -> String {
