@@ -22,7 +22,7 @@ use Rattle.sequential.proofs.LoopLaws.{is-source}
 use Rattle.planner.specs.declared.Planning.{Planning}
 use Rattle.planner.specs.Plan.{noRoom, planRefusal, planAnswer}
 use Rattle.execution.specs.Rules.{Move, Effect, refuse, iteration, message, answer, Layout, effect}
-use Rattle.execution.specs.Machine.{Machine, freshMachine, machineAfter, machineView, machineAnswer, machineNext, layoutOf, referenceRun, referenceAnswers, computedCount, deliveredCount, allowedCount}
+use Rattle.execution.specs.Machine.{Machine, freshMachine, machineAfter, machineView, machineAnswer, machineNext, layoutOf, referenceRun, referenceAnswers, computedCount, deliveredCount, messagesOn, allowedCount}
 use Rattle.execution.specs.Run.{State, moveEffect, moveAnswer, after, run, answers}
 use Rattle.execution.specs.Claim.{Planned, Fresh, Change, one-iteration, one-message, nothing, NoneMissing, NoneAllowed, Complete, Outcome, Calls, no-call, call}
 use Rattle.execution.proofs.Base.{eq?}
@@ -43,7 +43,7 @@ causal s ok = record {
 }
 
 -- tables that the planner made hold it
-pub planned-same : (s : LoopNest) (L : Layout) → refusal s ≡ 0 → Planned s L → SameLayout s L (layoutOf s)
+pub planned-same : (s : LoopNest) (L : Layout) → refusal s ≡ 0 → Planned (layoutOf s) L → SameLayout s L (layoutOf s)
 planned-same s L ok pl = record {
   steps-room = let e = ap length (pl .steps) ∙ length-append (stepsOf s) (pl .behind-steps) in let n = steps-length s ok in omega arith;
   processors-room = let e = ap length (pl .processors) ∙ length-append (processorsOf s) (pl .behind-processors) in let n = processors-length s in omega arith;
@@ -53,7 +53,7 @@ planned-same s L ok pl = record {
 
 -- what `plan` promises of its answer and of the step and processor tables is enough
 pub plan-planned : (s : LoopNest) (r : Planning) (steps processors steps′ processors′ : List ℕ) → r .refusal ≡ 0 → steps′ ≡ tableAfter (r .refusal) (stepsOf s) steps
-    → processors′ ≡ tableAfter (r .refusal) (processorsOf s) processors → Planned s (record { steps = steps′; processors = processors′ })
+    → processors′ ≡ tableAfter (r .refusal) (processorsOf s) processors → Planned (layoutOf s) (record { steps = steps′; processors = processors′ })
 plan-planned s r steps processors steps′ processors′ e p q = record {
   behind-steps = drop (length (stepsOf s)) steps;
   behind-processors = drop (length (processorsOf s)) processors;
@@ -63,85 +63,87 @@ plan-planned s r steps processors steps′ processors′ e p q = record {
 
 -- ---- demand 3
 
-module _ {Val : Type 0} (R : Rule Val) (s : LoopNest) (L : Layout) (st₀ : State Val) (ok : refusal s ≡ 0) (pl : Planned s L) (fr : Fresh s st₀) where
-  -- the nest's layout is causal
-  abbrev C : Causal s (layoutOf s)
-  C = causal s ok
-
-  -- the tables hold it
-  abbrev same : SameLayout s L (layoutOf s)
-  same = planned-same s L ok pl
-
+-- on any layout whose steps fall along sources and whose processors are below 2^c
+module _ {Val : Type 0} (R : Rule Val) (s : LoopNest) (M L : Layout) (st₀ : State Val) (ok : refusal s ≡ 0) (C : Causal s M) (same : SameLayout s L M) (fr : Fresh s st₀) where
   -- the reference machine is sound after every list
-  sound : (ms : List Move) → Sound s (layoutOf s) (referenceRun s ms)
-  sound ms = run-sound s (layoutOf s) freshMachine ms (fresh-sound s (layoutOf s))
+  sound : (ms : List Move) → Sound s M (referenceRun s M ms)
+  sound ms = run-sound s M freshMachine ms (fresh-sound s M)
 
   -- and the tables hold what it does
-  kept : (ms : List Move) → Kept R s st₀ (referenceRun s ms) (run R s L st₀ ms)
-  kept ms = run-kept R s ok L (layoutOf s) C same st₀ fr freshMachine st₀ ms (fresh-sound s (layoutOf s)) (fresh-kept R s ok L (layoutOf s) C same st₀ fr)
+  kept : (ms : List Move) → Kept R s st₀ (referenceRun s M ms) (run R s L st₀ ms)
+  kept ms = run-kept R s ok L M C same st₀ fr freshMachine st₀ ms (fresh-sound s M) (fresh-kept R s ok L M C same st₀ fr)
 
   -- the numbers answered are its own
-  same-numbers : (ms : List Move) → answers R s L st₀ ms ≡ referenceAnswers s ms
-  same-numbers ms = run-answers R s ok L (layoutOf s) C same st₀ fr freshMachine st₀ ms (fresh-sound s (layoutOf s)) (fresh-kept R s ok L (layoutOf s) C same st₀ fr)
+  same-numbers : (ms : List Move) → answers R s L st₀ ms ≡ referenceAnswers s M ms
+  same-numbers ms = run-answers R s ok L M C same st₀ fr freshMachine st₀ ms (fresh-sound s M) (fresh-kept R s ok L M C same st₀ fr)
 
   -- the next move, whatever it is, comes to the same on both
-  next-effect : (ms : List Move) (mv : Move) → moveEffect s L (run R s L st₀ ms) mv ≡ effect s (machineView (layoutOf s) (referenceRun s ms)) mv
-  next-effect ms mv = same-effect R s ok L (layoutOf s) C same st₀ fr (referenceRun s ms) (run R s L st₀ ms) (kept ms) mv
+  next-effect : (ms : List Move) (mv : Move) → moveEffect s L (run R s L st₀ ms) mv ≡ effect s (machineView M (referenceRun s M ms)) mv
+  next-effect ms mv = same-effect R s ok L M C same st₀ fr (referenceRun s M ms) (run R s L st₀ ms) (kept ms) mv
 
   -- and is answered the same
-  next-answer : (ms : List Move) (mv : Move) → moveAnswer s L (run R s L st₀ ms) mv ≡ machineAnswer s (layoutOf s) (referenceRun s ms) mv
+  next-answer : (ms : List Move) (mv : Move) → moveAnswer s L (run R s L st₀ ms) mv ≡ machineAnswer s M (referenceRun s M ms) mv
   next-answer ms mv = ap answer (next-effect ms mv)
 
   -- an effect changes one thing or nothing
-  change-of : (ms : List Move) (x : Effect) → Valid s (layoutOf s) (referenceRun s ms) x
-      → Change R s (referenceRun s ms) (run R s L st₀ ms) (answer x) (machineAfter (referenceRun s ms) x) (after R s (run R s L st₀ ms) x)
+  change-of : (ms : List Move) (x : Effect) → Valid s M (referenceRun s M ms) x
+      → Change R s M (referenceRun s M ms) (run R s L st₀ ms) (answer x) (machineAfter (referenceRun s M ms) x) (after R s (run R s L st₀ ms) x)
   change-of ms (refuse a) w = nothing w
-  change-of ms (iteration k) w = one-iteration (w .0) (w .1) (written R s ok L (layoutOf s) C same st₀ fr (referenceRun s ms) (run R s L st₀ ms) k w (kept ms))
+  change-of ms (iteration k) w = one-iteration (w .0) (w .1) (written R s ok L M C same st₀ fr (referenceRun s M ms) (run R s L st₀ ms) k w (kept ms))
   change-of ms (message k i) w = one-message (w .0) (w .1) (w .3) (w .2)
 
   -- and so does a move
   change : (front : List Move) (mv : Move)
-      → Change R s (referenceRun s front) (run R s L st₀ front) (moveAnswer s L (run R s L st₀ front) mv) (referenceRun s (front ++ (mv ∷ []))) (run R s L st₀ (front ++ (mv ∷ [])))
+      → Change R s M (referenceRun s M front) (run R s L st₀ front) (moveAnswer s L (run R s L st₀ front) mv) (referenceRun s M (front ++ (mv ∷ []))) (run R s L st₀ (front ++ (mv ∷ [])))
   change front mv =
-      let b = referenceRun s front in
+      let b = referenceRun s M front in
       let st = run R s L st₀ front in
-      let x = effect s (machineView (layoutOf s) b) mv in
-      let done = change-of front x (effect-valid s (layoutOf s) b (sound front) mv) in
-      let here = subst (λ y. Change R s b st (answer y) (machineAfter b x) (after R s st y)) (sym (next-effect front mv)) done in
-      subst (λ c. Change R s b st (moveAnswer s L st mv) c (run R s L st₀ (front ++ (mv ∷ [])))) (sym (machine-snoc s (layoutOf s) freshMachine front mv))
-      (subst (λ u. Change R s b st (moveAnswer s L st mv) (machineNext s (layoutOf s) b mv) u) (sym (run-snoc R s L st₀ front mv)) here)
+      let x = effect s (machineView M b) mv in
+      let done = change-of front x (effect-valid s M b (sound front) mv) in
+      let here = subst (λ y. Change R s M b st (answer y) (machineAfter b x) (after R s st y)) (sym (next-effect front mv)) done in
+      subst (λ c. Change R s M b st (moveAnswer s L st mv) c (run R s L st₀ (front ++ (mv ∷ [])))) (sym (machine-snoc s M freshMachine front mv))
+      (subst (λ u. Change R s M b st (moveAnswer s L st mv) (machineNext s M b mv) u) (sym (run-snoc R s L st₀ front mv)) here)
 
   -- allowed moves = computed iterations + delivered messages
-  count-allowed : (ms : List Move) → allowedCount (answers R s L st₀ ms) ≡ computedCount s (referenceRun s ms) + deliveredCount s (referenceRun s ms)
-  count-allowed ms = ap allowedCount (same-numbers ms) ∙ omega (arith, run-size s (layoutOf s) freshMachine ms (fresh-sound s (layoutOf s)), fresh-size s (layoutOf s))
+  count-allowed : (ms : List Move) → allowedCount (answers R s L st₀ ms) ≡ computedCount s (referenceRun s M ms) + deliveredCount s (referenceRun s M ms)
+  count-allowed ms = ap allowedCount (same-numbers ms) ∙ omega (arith, run-size s M freshMachine ms (fresh-sound s M), fresh-size s M)
 
   -- no iteration is missing where no move is allowed
-  ended : (ms : List Move) → NoneAllowed s L (run R s L st₀ ms) → NoneMissing s (referenceRun s ms)
-  ended ms none = stuck s (layoutOf s) (referenceRun s ms) C (λ mv e. none mv (next-answer ms mv ∙ e))
+  ended : (ms : List Move) → NoneAllowed s L (run R s L st₀ ms) → NoneMissing s (referenceRun s M ms)
+  ended ms none = stuck s M (referenceRun s M ms) C (λ mv e. none mv (next-answer ms mv ∙ e))
 
   -- and then the run is complete
-  complete : (ms : List Move) → NoneMissing s (referenceRun s ms) → Complete R s st₀ (referenceRun s ms) (run R s L st₀ ms) (answers R s L st₀ ms)
+  complete : (ms : List Move) → NoneMissing s (referenceRun s M ms) → Complete R s M st₀ (referenceRun s M ms) (run R s L st₀ ms) (answers R s L st₀ ms)
   complete ms all = record {
     table = begins-with R s (run R s L st₀ ms .values) (subst (λ z. length (pointsOf s) ≤ z) (sym (kept ms .values-length)) (fr .values-room)) (λ k l d. kept ms .value k l (all k l) d)
         ∙ ap (λ t. sequential R s ++ t) (kept ms .values-behind);
-    all-delivered = all-delivered s (layoutOf s) (referenceRun s ms) (sound ms) all;
-    all-allowed = count-allowed ms ∙ full-size s (layoutOf s) (referenceRun s ms) (sound ms) all ∙ (unfold messageCount in refl);
+    all-delivered = all-delivered s M (referenceRun s M ms) (sound ms) all;
+    all-allowed = count-allowed ms ∙ full-size s M (referenceRun s M ms) (sound ms) all;
   }
 
-  -- Demand 3
-  pub run-outcome : (ms : List Move) → Outcome R s L st₀ ms
-  run-outcome ms = record {
+  -- Demand 3 on that layout
+  pub layout-outcome : (ms : List Move) → Outcome R s M L st₀ ms
+  layout-outcome ms = record {
     same-answers = same-numbers ms;
-    holds = kept-holds R s ok L (layoutOf s) C same st₀ fr (referenceRun s ms) (run R s L st₀ ms) (sound ms) (kept ms);
+    holds = kept-holds R s ok L M C same st₀ fr (referenceRun s M ms) (run R s L st₀ ms) (sound ms) (kept ms);
     each-move = λ front back mv e. change front mv;
-    no-refusal = λ front back e. kept-accepted R s ok L (layoutOf s) C same st₀ fr (referenceRun s front) (run R s L st₀ front) (kept front);
+    no-refusal = λ front back e. kept-accepted R s ok L M C same st₀ fr (referenceRun s M front) (run R s L st₀ front) (kept front);
     allowed = count-allowed ms;
-    progress = λ k l e. let p = progress s (layoutOf s) (referenceRun s ms) C k l e in (p .0, p .1, next-answer ms (p .0) ∙ p .1);
+    progress = λ k l e. let p = progress s M (referenceRun s M ms) C k l e in (p .0, p .1, next-answer ms (p .0) ∙ p .1);
     none-allowed = ended ms;
-    none-missing = λ all mv e. none-left s (layoutOf s) (referenceRun s ms) (sound ms) all mv (sym (next-answer ms mv) ∙ e);
+    none-missing = λ all mv e. none-left s M (referenceRun s M ms) (sound ms) all mv (sym (next-answer ms mv) ∙ e);
     complete-unless-allowed = λ none. complete ms (ended ms none);
     complete-unless-missing = complete ms;
   }
+
+-- Demand 3, on the nest's own layout
+pub run-outcome : {Val : Type 0} (R : Rule Val) (s : LoopNest) (L : Layout) (st₀ : State Val) → refusal s ≡ 0 → Planned (layoutOf s) L → Fresh s st₀ → (ms : List Move) → Outcome R s (layoutOf s) L st₀ ms
+run-outcome R s L st₀ ok pl fr ms = layout-outcome R s (layoutOf s) L st₀ ok (causal s ok) (planned-same s L ok pl) fr ms
+
+-- its messages are those that the plan counts
+pub own-messages : (s : LoopNest) → messagesOn s (layoutOf s) ≡ messageCount s
+unfolding messageCount
+own-messages s = refl
 
 -- ---- from what `plan` promises
 
@@ -162,7 +164,7 @@ plan-accepted s r a b c d e z =
 pub plan-outcome : {Val : Type 0} (R : Rule Val) (s : LoopNest) (r : Planning) (steps blocks processors values steps′ processors′ : List ℕ)
     → r ≡ planAnswer s (planRefusal s (length steps) (length blocks) (length processors) (length values)) → r .refusal ≡ 0
     → steps′ ≡ tableAfter (r .refusal) (stepsOf s) steps → processors′ ≡ tableAfter (r .refusal) (processorsOf s) processors
-    → (st₀ : State Val) → Fresh s st₀ → (ms : List Move) → Outcome R s (record { steps = steps′; processors = processors′ }) st₀ ms
+    → (st₀ : State Val) → Fresh s st₀ → (ms : List Move) → Outcome R s (layoutOf s) (record { steps = steps′; processors = processors′ }) st₀ ms
 plan-outcome R s r steps blocks processors values steps′ processors′ e z p q st₀ fr ms =
     run-outcome R s (record { steps = steps′; processors = processors′ }) st₀ (plan-accepted s r (length steps) (length blocks) (length processors) (length values) e z)
     (plan-planned s r steps processors steps′ processors′ z p q) fr ms
@@ -170,10 +172,10 @@ plan-outcome R s r steps blocks processors values steps′ processors′ e z p q
 -- ---- the weighted sum
 
 -- under the nest's own rule a complete run's table is the table of values that the planner writes
-pub weighted-table : (s : LoopNest) (st₀ : State ℕ) (b : Machine) (st : State ℕ) (numbers : List ℕ) → Complete (ruleOf s) s st₀ b st numbers
+pub weighted-table : (s : LoopNest) (st₀ : State ℕ) (b : Machine) (st : State ℕ) (numbers : List ℕ) → (M : Layout) → Complete (ruleOf s) s M st₀ b st numbers
     → st .values ≡ valuesOf s ++ drop (length (pointsOf s)) (st₀ .values)
 unfolding valuesOf
-weighted-table s st₀ b st numbers c = c .table
+weighted-table s st₀ b st numbers M c = c .table
 
 -- ---- calls
 
@@ -188,18 +190,18 @@ calls-run R s L st ms numbers last (call {st′ = st′} {ms = rest} {numbers = 
 -- ---- the messages that are ever delivered
 
 -- every list of moves can be continued until no iteration is missing
-pub can-complete : (s : LoopNest) → refusal s ≡ 0 → (ms : List Move) → (more : List Move) × NoneMissing s (referenceRun s (ms ++ more))
+pub can-complete : (s : LoopNest) → refusal s ≡ 0 → (ms : List Move) → (more : List Move) × NoneMissing s (referenceRun s (layoutOf s) (ms ++ more))
 can-complete s ok ms =
     let sd = run-sound s (layoutOf s) freshMachine ms (fresh-sound s (layoutOf s)) in
-    let r = finish s (layoutOf s) (causal s ok) (length (pointsOf s) + length (pointsOf s) * countOf s) (referenceRun s ms) sd (omega arith) in
+    let r = finish s (layoutOf s) (causal s ok) (length (pointsOf s) + length (pointsOf s) * countOf s) (referenceRun s (layoutOf s) ms) sd (omega arith) in
     (r .0, λ k l. ap (λ (b : Machine). b .computed k) (machine-append s (layoutOf s) freshMachine ms (r .0)) ∙ r .1 k l)
 
 -- the pairs that the reference machine can ever deliver are the messages; `messages-counted` says that `messageCount` is their number
 pub deliverable-iff : (s : LoopNest) → refusal s ≡ 0 → (k i : ℕ)
-    → ((ms : List Move) × (referenceRun s ms .delivered k i ≡ true)) ↔ ((k < length (pointsOf s)) × (i < countOf s) × (isMessage s (processorsOf s) k i ≡ true))
+    → ((ms : List Move) × (referenceRun s (layoutOf s) ms .delivered k i ≡ true)) ↔ ((k < length (pointsOf s)) × (i < countOf s) × (isMessage s (processorsOf s) k i ≡ true))
 deliverable-iff s ok k i = (
   λ d. run-sound s (layoutOf s) freshMachine (d .0) (fresh-sound s (layoutOf s)) .messages k i (d .1),
   λ m.
       let r = can-complete s ok [] in
-      (r .0, all-delivered s (layoutOf s) (referenceRun s (r .0)) (run-sound s (layoutOf s) freshMachine (r .0) (fresh-sound s (layoutOf s))) (r .1) k i (m .0) (m .1) ∙ m .2),
+      (r .0, all-delivered s (layoutOf s) (referenceRun s (layoutOf s) (r .0)) (run-sound s (layoutOf s) freshMachine (r .0) (fresh-sound s (layoutOf s))) (r .1) k i (m .0) (m .1) ∙ m .2),
 )

@@ -16,6 +16,7 @@ use Rattle.nest.specs.Refusals.{number, outside, crossed, outOfSpan, backward, 
 use Rattle.sequential.specs.Sequential.{Rule}
 use Rattle.planner.specs.Examples.{vector, listed}
 use Rattle.execution.specs.Rules.{every, Move}
+use Rattle.execution.specs.Machine.{layoutOf}
 use Rattle.execution.specs.Claim.{Planned, Fresh, Outcome}
 use Rattle.execution.specs.Example.{exampleLayout, exampleState, example-steps, example-processors}
 use Rattle.execution.proofs.Base.{every-true}
@@ -32,7 +33,7 @@ unfolding tab toℕ limitsOf padded nestOf extent indices points pointsOf vector
 example-count = refl
 
 -- the tables are the planner's
-example-planned : Planned listed exampleLayout
+example-planned : Planned (layoutOf listed) exampleLayout
 example-planned = record {
   behind-steps = 8 ∷ [];
   behind-processors = 200 ∷ [];
@@ -56,5 +57,5 @@ example-fresh = record {
 }
 
 -- so every list of moves comes to what the claim says
-pub example-outcome : (R : Rule ℕ) (ms : List Move) → Outcome R listed exampleLayout exampleState ms
+pub example-outcome : (R : Rule ℕ) (ms : List Move) → Outcome R listed (layoutOf listed) exampleLayout exampleState ms
 example-outcome R ms = run-outcome R listed exampleLayout exampleState example-accepted example-planned example-fresh ms

@@ -1,7 +1,8 @@
 -- The executable rules are document 01's sentences: what they do the sentences say, and the sentences leave no choice.
 -- Assumes nothing.
-use mathlib.Core.Path.{_≡_, refl, sym, ap, subst, _∙_}
+use mathlib.Core.Path.{_≡_, refl, sym, ap, ap₂, subst, _∙_}
 use mathlib.Core.Bool.{true, false, not, _&&_}
+use mathlib.Core.List.{List, [], _∷_}
 use mathlib.Core.Logic.{_⊎_, inl, inr, _↔_}
 use mathlib.Core.Option.{none, some}
 use Prim.Native.Nat.{ℕ, _^_, _<_}
@@ -16,8 +17,9 @@ use Rattle.nest.specs.Points.{pointsOf}
 use Rattle.nest.specs.Sources.{sourceRank}
 use Rattle.mapping.specs.Mapping.{isMessage}
 use Rattle.mapping.proofs.Theorems.{message-true, true-message}
-use Rattle.execution.specs.Rules.{every, Move, compute, deliver, Effect, refuse, iteration, message, View, stepIn, processorIn, waits, there, sourceDone, taking, effect, ready}
-use Rattle.execution.specs.Words.{Takes, Present, Absent, Sent, Says, no-processor, idle-processor, waiting, computes, no-place, out-of-turn, delivers}
+use Rattle.execution.specs.Rules.{every, Move, compute, deliver, Effect, refuse, iteration, message, answer, Layout, View, stepIn, processorIn, waits, there, sourceDone, taking, effect, ready}
+use Rattle.execution.specs.Machine.{Machine, machineAfter, machineView, machineNext, machineRun, machineAnswers}
+use Rattle.execution.specs.Words.{Takes, Present, Absent, Sent, Says, no-processor, idle-processor, waiting, computes, no-place, out-of-turn, delivers, SaysList, no-move, next-move}
 use Rattle.execution.proofs.Base.{eq?, opt, both, and-left, and-right, every-true, every-false, every-intro, every-refute, least-none, least-some, least-empty, least-unique}
 use Rattle.execution.proofs.RuleLaws.{there-own, there-other, taking-none, taking-ready, taking-waits, delivering-ready, delivering-refused, taken, compute-there, compute-nowhere, deliver-there, deliver-nowhere, by-move}
 
@@ -162,3 +164,22 @@ module _ (s : LoopNest) (v : View) where
   -- a move has an effect exactly if the sentences say so
   pub says-iff : (mv : Move) (x : Effect) → Says s v mv x ↔ (effect s v mv ≡ x)
   says-iff mv x = (says-unique mv x, λ e. subst (Says s v mv) e (effect-says mv))
+
+-- ---- a whole list of moves
+
+module _ (s : LoopNest) (L : Layout) where
+  -- what the machine does is what the sentences say
+  pub list-says : (b : Machine) (ms : List Move) → SaysList s L b ms (machineAnswers s L b ms) (machineRun s L b ms)
+  list-says b [] = no-move
+  list-says b (mv ∷ ms) = next-move (effect-says s (machineView L b) mv) (list-says (machineNext s L b mv) ms)
+
+  -- and they say nothing else
+  pub list-unique : (b : Machine) (ms : List Move) (numbers : List ℕ) (last : Machine) → SaysList s L b ms numbers last
+      → (numbers ≡ machineAnswers s L b ms) × (last ≡ machineRun s L b ms)
+  list-unique b ms numbers last no-move = (refl, refl)
+  list-unique b ms numbers last (next-move {mv = mv} {ms = rest} {x = x} {numbers = others} w r) =
+      let e : effect s (machineView L b) mv ≡ x = says-unique s (machineView L b) mv x w in
+      let h = list-unique (machineAfter b x) rest others last r in (
+        ap₂ _∷_ (ap answer (sym e)) (h .0 ∙ ap (λ y. machineAnswers s L (machineAfter b y) rest) (sym e)),
+        h .1 ∙ ap (λ y. machineRun s L (machineAfter b y) rest) (sym e),
+      )

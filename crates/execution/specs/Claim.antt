@@ -10,21 +10,20 @@ use lib.ListN.{length, getD, drop}
 use Rattle.nest.specs.declared.LoopNest.{LoopNest}
 use Rattle.nest.specs.Nest.{countOf}
 use Rattle.nest.specs.Points.{pointsOf}
-use Rattle.partition.specs.Partition.{stepsOf}
-use Rattle.mapping.specs.Mapping.{processorsOf, isMessage, messageCount}
+use Rattle.mapping.specs.Mapping.{isMessage}
 use Rattle.sequential.specs.Sequential.{Rule, sequential}
 use Rattle.execution.specs.Rules.{Move, Layout}
-use Rattle.execution.specs.Machine.{Machine, withIteration, withMessage, layoutOf, machineAnswer, referenceRun, referenceAnswers, computedCount, deliveredCount, allowedCount}
+use Rattle.execution.specs.Machine.{Machine, withIteration, withMessage, machineAnswer, referenceRun, referenceAnswers, computedCount, deliveredCount, messagesOn, allowedCount}
 use Rattle.execution.specs.Run.{State, bit, withValue, withBit, stateRefusal, moveAnswer, moveAfter, run, answers}
 
 -- ---- hypotheses
 
 -- the tables are those that the planner made for the nest, whatever stands behind them
-pub record Planned (s : LoopNest) (L : Layout) : Type 0 where
+pub record Planned (M L : Layout) : Type 0 where
   pub behind-steps : List ℕ
   pub behind-processors : List ℕ
-  pub steps : L .steps ≡ stepsOf s ++ behind-steps
-  pub processors : L .processors ≡ processorsOf s ++ behind-processors
+  pub steps : L .steps ≡ M .steps ++ behind-steps
+  pub processors : L .processors ≡ M .processors ++ behind-processors
 
 -- the state has an entry for each iteration, and the iterations' done and delivered bytes are 0
 pub record Fresh {Val : Type 0} (s : LoopNest) (st : State Val) : Type 0 where
@@ -59,12 +58,12 @@ pub record Holds {Val : Type 0} (R : Rule Val) (s : LoopNest) (st₀ : State Val
 
 -- A move that finds the machine at b and the state at st answers a number and leaves another machine and state: it computes one iteration that was missing, or delivers
 -- one message that was not delivered, and changes nothing else; a refused one changes nothing.
-pub data Change {Val : Type 0} (R : Rule Val) (s : LoopNest) (b : Machine) (st : State Val) : ℕ → Machine → State Val → Type 0 where
+pub data Change {Val : Type 0} (R : Rule Val) (s : LoopNest) (M : Layout) (b : Machine) (st : State Val) : ℕ → Machine → State Val → Type 0 where
   one-iteration : {k : ℕ} {x : Val} → k < length (pointsOf s) → b .computed k ≡ false → ((d : Val) → x ≡ getD (sequential R s) k d)
-      → Change R s b st 0 (withIteration b k) (withValue st k x)
-  one-message : {k i : ℕ} → k < length (pointsOf s) → i < countOf s → isMessage s (processorsOf s) k i ≡ true → b .delivered k i ≡ false
-      → Change R s b st 0 (withMessage b k i) (withBit st k i)
-  nothing : {a : ℕ} → a ≢ 0 → Change R s b st a b st
+      → Change R s M b st 0 (withIteration b k) (withValue st k x)
+  one-message : {k i : ℕ} → k < length (pointsOf s) → i < countOf s → isMessage s (M .processors) k i ≡ true → b .delivered k i ≡ false
+      → Change R s M b st 0 (withMessage b k i) (withBit st k i)
+  nothing : {a : ℕ} → a ≢ 0 → Change R s M b st a b st
 
 -- ---- the end of a run
 
@@ -77,33 +76,33 @@ abbrev pub NoneAllowed : {Val : Type 0} → LoopNest → Layout → State Val �
 NoneAllowed s L st = (mv : Move) → moveAnswer s L st mv ≢ 0
 
 -- the table is the sequential loop's, every message is delivered, and allowed moves = iterations + messages
-pub record Complete {Val : Type 0} (R : Rule Val) (s : LoopNest) (st₀ : State Val) (b : Machine) (st : State Val) (numbers : List ℕ) : Type 0 where
+pub record Complete {Val : Type 0} (R : Rule Val) (s : LoopNest) (M : Layout) (st₀ : State Val) (b : Machine) (st : State Val) (numbers : List ℕ) : Type 0 where
   pub table : st .values ≡ sequential R s ++ drop (length (pointsOf s)) (st₀ .values)
-  pub all-delivered : (k i : ℕ) → k < length (pointsOf s) → i < countOf s → b .delivered k i ≡ isMessage s (processorsOf s) k i
-  pub all-allowed : allowedCount numbers ≡ length (pointsOf s) + messageCount s
+  pub all-delivered : (k i : ℕ) → k < length (pointsOf s) → i < countOf s → b .delivered k i ≡ isMessage s (M .processors) k i
+  pub all-allowed : allowedCount numbers ≡ length (pointsOf s) + messagesOn s M
 
 -- ---- what a list of moves comes to
-pub record Outcome {Val : Type 0} (R : Rule Val) (s : LoopNest) (L : Layout) (st₀ : State Val) (ms : List Move) : Type 0 where
+pub record Outcome {Val : Type 0} (R : Rule Val) (s : LoopNest) (M L : Layout) (st₀ : State Val) (ms : List Move) : Type 0 where
   -- the numbers answered are the reference machine's, in order
-  pub same-answers : answers R s L st₀ ms ≡ referenceAnswers s ms
+  pub same-answers : answers R s L st₀ ms ≡ referenceAnswers s M ms
   -- the state holds what the reference machine holds
-  pub holds : Holds R s st₀ (referenceRun s ms) (run R s L st₀ ms)
+  pub holds : Holds R s st₀ (referenceRun s M ms) (run R s L st₀ ms)
   -- each move of the list computes one iteration or delivers one message and changes nothing else; a refused one changes nothing
   pub each-move : (front back : List Move) (mv : Move) → ms ≡ front ++ (mv ∷ back)
-      → Change R s (referenceRun s front) (run R s L st₀ front) (moveAnswer s L (run R s L st₀ front) mv) (referenceRun s (front ++ (mv ∷ []))) (run R s L st₀ (front ++ (mv ∷ [])))
+      → Change R s M (referenceRun s M front) (run R s L st₀ front) (moveAnswer s L (run R s L st₀ front) mv) (referenceRun s M (front ++ (mv ∷ []))) (run R s L st₀ (front ++ (mv ∷ [])))
   -- none of the refusals 2 to 14 comes up, at any move
   pub no-refusal : (front back : List Move) → ms ≡ front ++ back → stateRefusal s L (run R s L st₀ front) ≡ 0
   -- allowed moves = computed iterations + delivered messages
-  pub allowed : allowedCount (answers R s L st₀ ms) ≡ computedCount s (referenceRun s ms) + deliveredCount s (referenceRun s ms)
+  pub allowed : allowedCount (answers R s L st₀ ms) ≡ computedCount s (referenceRun s M ms) + deliveredCount s (referenceRun s M ms)
   -- while an iteration is missing some move is allowed
-  pub progress : (k : ℕ) → k < length (pointsOf s) → referenceRun s ms .computed k ≡ false
-      → (mv : Move) × (machineAnswer s (layoutOf s) (referenceRun s ms) mv ≡ 0) × (moveAnswer s L (run R s L st₀ ms) mv ≡ 0)
+  pub progress : (k : ℕ) → k < length (pointsOf s) → referenceRun s M ms .computed k ≡ false
+      → (mv : Move) × (machineAnswer s M (referenceRun s M ms) mv ≡ 0) × (moveAnswer s L (run R s L st₀ ms) mv ≡ 0)
   -- so when no move is allowed, no iteration is missing; and the reverse
-  pub none-allowed : NoneAllowed s L (run R s L st₀ ms) → NoneMissing s (referenceRun s ms)
-  pub none-missing : NoneMissing s (referenceRun s ms) → NoneAllowed s L (run R s L st₀ ms)
+  pub none-allowed : NoneAllowed s L (run R s L st₀ ms) → NoneMissing s (referenceRun s M ms)
+  pub none-missing : NoneMissing s (referenceRun s M ms) → NoneAllowed s L (run R s L st₀ ms)
   -- when no move is allowed, and likewise when no iteration is missing, the run is complete
-  pub complete-unless-allowed : NoneAllowed s L (run R s L st₀ ms) → Complete R s st₀ (referenceRun s ms) (run R s L st₀ ms) (answers R s L st₀ ms)
-  pub complete-unless-missing : NoneMissing s (referenceRun s ms) → Complete R s st₀ (referenceRun s ms) (run R s L st₀ ms) (answers R s L st₀ ms)
+  pub complete-unless-allowed : NoneAllowed s L (run R s L st₀ ms) → Complete R s M st₀ (referenceRun s M ms) (run R s L st₀ ms) (answers R s L st₀ ms)
+  pub complete-unless-missing : NoneMissing s (referenceRun s M ms) → Complete R s M st₀ (referenceRun s M ms) (run R s L st₀ ms) (answers R s L st₀ ms)
 
 -- ---- calls
 

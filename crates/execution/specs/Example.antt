@@ -19,7 +19,7 @@ use Rattle.mapping.specs.Mapping.{inOrder, direction, undealt, takesBit, withBi
 use Rattle.sequential.specs.Sequential.{sourceValue, valueOf, sum, weightedSum, ruleOf}
 use Rattle.planner.specs.Examples.{vector, listed}
 use Rattle.execution.specs.Rules.{every, better, least, Move, compute, deliver, Layout, taking, delivering, effect}
-use Rattle.execution.specs.Machine.{referenceAnswers, allowedCount}
+use Rattle.execution.specs.Machine.{layoutOf, referenceAnswers, allowedCount}
 use Rattle.execution.specs.Run.{State, moveRefusal, moveEffect, run, answers}
 
 -- the planner's tables, with an entry behind them
@@ -73,6 +73,6 @@ unfolding any place count tab dots plus times eqZ eqV toℕ part limitsOf timeOf
 example-run = refl
 
 -- the reference machine, fed the nest and the moves, answers them too
-pub example-reference : referenceAnswers listed exampleMoves ≡ exampleAnswers
+pub example-reference : referenceAnswers listed (layoutOf listed) exampleMoves ≡ exampleAnswers
 unfolding any all first place firstsAfter firsts count repeats tab greatest firstFrom dots plus times eqZ eqV isZeroV floorDiv toℕ part limitsOf timeOf dependencesOf weightsOf padded nestOf extent indices points pointsOf rank isPoint source sourceRank projection divides makesWhole multiplier groupSize leastZ step pivot clear remainder mayGroup groupingVector extend chosenVectors latest coefficients left isCombination frame directions difference sameClass coordinates seeds eqG quotients classNumber group blocks blockNumber stepsOf frameOf groupsOf inOrder greatestZ direction undealt takesBit dealtBit noDirection nextTurn dealBit dealBits dealt gray partOf joined processor directionsOf processorsOf crosses isMessage vector listed flatMap every better least taking delivering effect
 example-reference = refl

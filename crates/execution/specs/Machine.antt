@@ -11,7 +11,7 @@ use Rattle.nest.specs.declared.LoopNest.{LoopNest}
 use Rattle.nest.specs.Nest.{countOf}
 use Rattle.nest.specs.Points.{pointsOf}
 use Rattle.partition.specs.Partition.{stepsOf}
-use Rattle.mapping.specs.Mapping.{processorsOf, total}
+use Rattle.mapping.specs.Mapping.{processorsOf, isMessage, total}
 use Rattle.execution.specs.Rules.{Move, Effect, refuse, iteration, message, answer, Layout, View, effect}
 
 pub record Machine : Type 0 where
@@ -60,18 +60,18 @@ module _ (s : LoopNest) (L : Layout) where
   machineAnswers b [] = []
   machineAnswers b (mv ∷ ms) = machineAnswer b mv ∷ machineAnswers (machineNext b mv) ms
 
--- ---- the reference machine of a nest
+-- ---- the reference machine of a nest and of a plan's layout
+
+-- what it holds after a list of moves, and what it answered
+abbrev pub referenceRun : LoopNest → Layout → List Move → Machine
+referenceRun s M ms = machineRun s M freshMachine ms
+
+abbrev pub referenceAnswers : LoopNest → Layout → List Move → List ℕ
+referenceAnswers s M ms = machineAnswers s M freshMachine ms
 
 -- the nest's own steps and processors
 abbrev pub layoutOf : LoopNest → Layout
 layoutOf s = record { steps = stepsOf s; processors = processorsOf s }
-
--- what it holds after a list of moves, and what it answered
-abbrev pub referenceRun : LoopNest → List Move → Machine
-referenceRun s ms = machineRun s (layoutOf s) freshMachine ms
-
-abbrev pub referenceAnswers : LoopNest → List Move → List ℕ
-referenceAnswers s ms = machineAnswers s (layoutOf s) freshMachine ms
 
 -- ---- counts
 
@@ -86,6 +86,10 @@ computedCount s b = countBelow (b .computed) (length (pointsOf s))
 -- how many messages are delivered
 abbrev pub deliveredCount : LoopNest → Machine → ℕ
 deliveredCount s b = total (tab (λ k. countBelow (b .delivered k) (countOf s)) (length (pointsOf s)))
+
+-- how many messages there are on a layout
+abbrev pub messagesOn : LoopNest → Layout → ℕ
+messagesOn s M = total (tab (λ k. countBelow (isMessage s (M .processors) k) (countOf s)) (length (pointsOf s)))
 
 -- how many moves are allowed: those answered 0
 abbrev pub allowedCount : List ℕ → ℕ
