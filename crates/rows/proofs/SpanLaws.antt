@@ -30,6 +30,12 @@ module _ (s : LoopNest) (entries : ℕ) (i : ℤ) where
   unfolding spanOf
   allowed-span e = rw (eq-eqb (rowRefusal s entries i) 0 e, spanOf) refl
 
+  -- its number
+  pub span-refusal : spanOf s entries i .refusal ≡ rowRefusal s entries i
+  span-refusal =
+      split (eqb (rowRefusal s entries i) 0) (λ t. let e = eqb-true (rowRefusal s entries i) 0 t in ap (λ (r : Span). r .refusal) (allowed-span e) ∙ sym e)
+      (λ f. ap (λ (r : Span). r .refusal) (refused-span (rowRefusal s entries i) refl (eqb-false (rowRefusal s entries i) 0 f)))
+
   -- ---- the ways out of `locate`
   pub bad-nest : (refusal s ≡ 0 → ⊥) → spanOf s entries i ≡ record { refusal = refusal s; start = 0; length = 0 }
   bad-nest h = refused-span (refusal s) (unfold rowRefusal in orElse-first (refusal s) _ h) h

@@ -2,7 +2,8 @@
 use nest::LoopNest;
 use nest::SHORT_BUFFER;
 ghost use mathlib.Core.Path.{_≡_};
-ghost use Rattle.rows.specs.Rows.{spanOf, rowOf};
+ghost use lib.ListN.{length};
+ghost use Rattle.rows.specs.Rows.{rowRefusal, spanOf, rowOf};
 
 // no such row: index outside the outermost limits
 pub const NO_SUCH_ROW: u8 = 19;
@@ -53,11 +54,13 @@ pub fn locate(s: LoopNest, entries: usize, index: i64) -> Span
     }
 }
 
-// The row of an outermost index, as a part of the lent table: empty where the call is refused.
-pub fn row<'a>(s: LoopNest, table: &'a [u16], index: i64) -> &'a [u16]
+// The row of an outermost index, as a part of the lent table: empty where the call is refused. The number of the refusal, or 0, is stored in `refusal`.
+pub fn row<'a>(s: LoopNest, table: &'a [u16], index: i64, refusal: &mut u8) -> &'a [u16]
     ensures { λ r. ⌜ now r ≡ rowOf s (now (table .entry)) index ⌝ }
+    ensures { λ r. ⌜ now (refusal .exit) ≡ rowRefusal s (length (now (table .entry))) index ⌝ }
 {
     let at = locate(s, table.len(), index);
+    *refusal = at.refusal;
     let start = at.start;
     let end = start + at.length;
     &table[start..end]

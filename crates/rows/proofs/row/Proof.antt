@@ -7,7 +7,7 @@ use lib.ListN.{length, take, drop}
 use mir.Facts.{toZ-ofZ}
 use Rattle.rows.specs.declared.Span.{Span}
 use Rattle.rows.specs.Rows.{spanOf, rowOf}
-use Rattle.rows.proofs.SpanLaws.{span-fits}
+use Rattle.rows.proofs.SpanLaws.{span-fits, span-refusal}
 use Rattle.rows.proofs.row.Statement.{statement}
 use Rattle.rows.proofs.row.Tie as tie
 
@@ -44,8 +44,10 @@ unfolding rowOf
 returns c =
     let r = c .before .before .locate .result in
     let a = c .before .before .before .before .args in
-    let e : r .start + r .length - r .start ≡ r .length = omega arith in
-    rw e (ap (λ (p : Span). take (p .length) (drop (p .start) (a .table .now))) (span (c .before .before)))
+    let e : r .start + r .length - r .start ≡ r .length = omega arith in (
+      rw e (ap (λ (p : Span). take (p .length) (drop (p .start) (a .table .now))) (span (c .before .before))),
+      ap (λ (p : Span). p .refusal) (span (c .before .before)) ∙ span-refusal (a .s) (length (a .table .now)) (a .index),
+    )
 
 pub row-spec : {M : Type 1} → statement M
 row-spec =
