@@ -11,7 +11,7 @@ use lib.ListN.{length, getD, drop, length-append, List·getD-append}
 use Rattle.nest.specs.declared.LoopNest.{LoopNest}
 use Rattle.nest.specs.Nest.{countOf}
 use Rattle.nest.specs.Points.{pointsOf}
-use Rattle.nest.specs.Refusals.{refusal, tableAfter}
+use Rattle.nest.specs.Refusals.{refusal}
 use Rattle.nest.proofs.Entries.{orElse-zero, made-table}
 use Rattle.partition.specs.Partition.{stepsOf}
 use Rattle.partition.proofs.Theorems.{later-step, steps-length}
@@ -20,21 +20,23 @@ use Rattle.mapping.proofs.Theorems.{processors-length, processors-below}
 use Rattle.sequential.specs.Sequential.{Rule, sequential, ruleOf, valuesOf}
 use Rattle.sequential.proofs.LoopLaws.{is-source}
 use Rattle.planner.specs.declared.Planning.{Planning}
-use Rattle.planner.specs.Plan.{noRoom, planRefusal, planAnswer}
+use Rattle.planner.specs.Plan.{noRoom, planRefusal, planAnswer, Tables, tablesRefusal, Plans}
 use Rattle.execution.specs.Rules.{Move, Effect, refuse, iteration, message, answer, Layout, effect}
 use Rattle.execution.specs.Machine.{Machine, freshMachine, machineAfter, machineView, machineAnswer, machineNext, layoutOf, referenceRun, referenceAnswers, computedCount, deliveredCount, messagesOn, allowedCount}
 use Rattle.execution.specs.Run.{State, moveEffect, moveAnswer, after, run, answers}
-use Rattle.execution.specs.Claim.{Planned, Fresh, Change, one-iteration, one-message, nothing, NoneMissing, NoneAllowed, Complete, Outcome, Calls, no-call, call}
+use Rattle.execution.specs.Claim.{Causal, Planned, Fresh, Change, one-iteration, one-message, nothing, NoneMissing, NoneAllowed, Complete, Outcome, Calls, no-call, call}
+use Rattle.execution.specs.Entry.{layoutIn}
 use Rattle.execution.proofs.Base.{eq?}
-use Rattle.execution.proofs.MachineLaws.{Causal, Sound, Valid, fresh-sound, fresh-size, effect-valid, run-sound, run-size, progress, stuck, all-delivered, full-size, none-left, finish}
+use Rattle.execution.proofs.MachineLaws.{Ordered, Sound, Valid, fresh-sound, fresh-size, effect-valid, run-sound, run-size, progress, stuck, all-delivered, full-size, none-left, finish}
 use Rattle.execution.proofs.TableLaws.{SameLayout, Kept, begins-with, fresh-kept, kept-holds, kept-accepted, same-effect, written, run-kept, run-answers, machine-append, machine-snoc, run-snoc}
 
 -- ---- the nest's own layout
 
--- it is causal: sources have smaller ranks and earlier steps, and processors are below 2^c
+-- it is causal: steps fall along sources, and processors are below 2^c
 pub causal : (s : LoopNest) → refusal s ≡ 0 → Causal s (layoutOf s)
 causal s ok = record {
-  earlier = λ k i j hk hi q. is-source s ok k i j hk hi q .earlier;
+  steps-each = steps-length s ok;
+  processors-each = processors-length s;
   sooner = λ k i j hk hi q.
       let r = is-source s ok k i j hk hi q in
       let l = r .earlier in
@@ -42,29 +44,31 @@ causal s ok = record {
   housed = λ k hk. processors-below s k hk;
 }
 
--- tables that the planner made hold it
-pub planned-same : (s : LoopNest) (L : Layout) → refusal s ≡ 0 → Planned (layoutOf s) L → SameLayout s L (layoutOf s)
-planned-same s L ok pl = record {
-  steps-room = let e = ap length (pl .steps) ∙ length-append (stepsOf s) (pl .behind-steps) in let n = steps-length s ok in omega arith;
-  processors-room = let e = ap length (pl .processors) ∙ length-append (processorsOf s) (pl .behind-processors) in let n = processors-length s in omega arith;
-  step = λ k h. ap (λ t. getD t k 0) (pl .steps) ∙ List·getD-append (stepsOf s) (pl .behind-steps) 0 k (let n = steps-length s ok in omega arith);
-  processor = λ k h. ap (λ t. getD t k 0) (pl .processors) ∙ List·getD-append (processorsOf s) (pl .behind-processors) 0 k (let n = processors-length s in omega arith);
-}
+-- sources of an accepted nest have smaller ranks
+pub ordered : (s : LoopNest) (M : Layout) → refusal s ≡ 0 → Causal s M → Ordered s M
+ordered s M ok C = record { earlier = λ k i j hk hi q. is-source s ok k i j hk hi q .earlier; sooner = C .sooner; housed = C .housed }
 
--- what `plan` promises of its answer and of the step and processor tables is enough
-pub plan-planned : (s : LoopNest) (r : Planning) (steps processors steps′ processors′ : List ℕ) → r .refusal ≡ 0 → steps′ ≡ tableAfter (r .refusal) (stepsOf s) steps
-    → processors′ ≡ tableAfter (r .refusal) (processorsOf s) processors → Planned (layoutOf s) (record { steps = steps′; processors = processors′ })
-plan-planned s r steps processors steps′ processors′ e p q = record {
-  behind-steps = drop (length (stepsOf s)) steps;
-  behind-processors = drop (length (processorsOf s)) processors;
-  steps = p ∙ made-table (r .refusal) _ (stepsOf s) steps e refl;
-  processors = q ∙ made-table (r .refusal) _ (processorsOf s) processors e refl;
+-- lent tables that begin with a layout's agree with it
+pub planned-same : (s : LoopNest) (M L : Layout) → Causal s M → Planned M L → SameLayout s L M
+planned-same s M L C pl = record {
+  steps-room = let e = ap length (pl .steps) ∙ length-append (M .steps) (pl .behind-steps) in omega (arith, C .steps-each);
+  processors-room = let e = ap length (pl .processors) ∙ length-append (M .processors) (pl .behind-processors) in omega (arith, C .processors-each);
+  step = λ k h. ap (λ t. getD t k 0) (pl .steps) ∙ List·getD-append (M .steps) (pl .behind-steps) 0 k (omega (arith, C .steps-each));
+  processor = λ k h. ap (λ t. getD t k 0) (pl .processors) ∙ List·getD-append (M .processors) (pl .behind-processors) 0 k (omega (arith, C .processors-each));
 }
 
 -- ---- demand 3
 
 -- on any layout whose steps fall along sources and whose processors are below 2^c
-module _ {Val : Type 0} (R : Rule Val) (s : LoopNest) (M L : Layout) (st₀ : State Val) (ok : refusal s ≡ 0) (C : Causal s M) (same : SameLayout s L M) (fr : Fresh s st₀) where
+module _ {Val : Type 0} (R : Rule Val) (s : LoopNest) (M L : Layout) (st₀ : State Val) (ok : refusal s ≡ 0) (ca : Causal s M) (pl : Planned M L) (fr : Fresh s st₀) where
+  -- sources come earlier in rank and step
+  abbrev C : Ordered s M
+  C = ordered s M ok ca
+
+  -- the lent tables agree with the layout
+  abbrev same : SameLayout s L M
+  same = planned-same s M L ca pl
+
   -- the reference machine is sound after every list
   sound : (ms : List Move) → Sound s M (referenceRun s M ms)
   sound ms = run-sound s M freshMachine ms (fresh-sound s M)
@@ -138,7 +142,7 @@ module _ {Val : Type 0} (R : Rule Val) (s : LoopNest) (M L : Layout) (st₀ : St
 
 -- Demand 3, on the nest's own layout
 pub run-outcome : {Val : Type 0} (R : Rule Val) (s : LoopNest) (L : Layout) (st₀ : State Val) → refusal s ≡ 0 → Planned (layoutOf s) L → Fresh s st₀ → (ms : List Move) → Outcome R s (layoutOf s) L st₀ ms
-run-outcome R s L st₀ ok pl fr ms = layout-outcome R s (layoutOf s) L st₀ ok (causal s ok) (planned-same s L ok pl) fr ms
+run-outcome R s L st₀ ok pl fr ms = layout-outcome R s (layoutOf s) L st₀ ok (causal s ok) pl fr ms
 
 -- its messages are those that the plan counts
 pub own-messages : (s : LoopNest) → messagesOn s (layoutOf s) ≡ messageCount s
@@ -148,26 +152,31 @@ own-messages s = refl
 -- ---- from what `plan` promises
 
 -- the number in its answer
-plan-number : (s : LoopNest) (k : ℕ) → planAnswer s k .refusal ≡ k
+pub plan-number : (s : LoopNest) (k : ℕ) → planAnswer s k .refusal ≡ k
 unfolding planAnswer
 plan-number s k = eq? k 0 (λ q. rw (eq-eqb k 0 q, planAnswer) (sym q)) (λ q. rw (ne-eqb k 0 q, planAnswer) refl)
 
--- a plan that was not refused is of an accepted nest
-pub plan-accepted : (s : LoopNest) (r : Planning) (a b c d : ℕ) → r ≡ planAnswer s (planRefusal s a b c d) → r .refusal ≡ 0 → refusal s ≡ 0
-unfolding planRefusal
-plan-accepted s r a b c d e z =
-    let k = planRefusal s a b c d in
-    let n : k ≡ 0 = sym (plan-number s k) ∙ ap (λ (x : Planning). x .refusal) (sym e) ∙ z in
-    orElse-zero (refusal s) (noRoom (length (pointsOf s)) a b c d) n .0
+module _ (s : LoopNest) (old : Tables) (r : Planning) (new : Tables) (P : Plans s old r new) (z : r .refusal ≡ 0) where
+  -- a plan that was not refused is of an accepted nest
+  pub plan-accepted : refusal s ≡ 0
+  unfolding planRefusal
+  plan-accepted =
+      let k = tablesRefusal s old in
+      let n : k ≡ 0 = sym (plan-number s k) ∙ ap (λ (x : Planning). x .refusal) (sym (P .0)) ∙ z in
+      orElse-zero (refusal s) (noRoom (length (pointsOf s)) (length (old .steps)) (length (old .blocks)) (length (old .processors)) (length (old .values))) n .0
 
--- Demand 3 on the tables that a call of `plan` left
-pub plan-outcome : {Val : Type 0} (R : Rule Val) (s : LoopNest) (r : Planning) (steps blocks processors values steps′ processors′ : List ℕ)
-    → r ≡ planAnswer s (planRefusal s (length steps) (length blocks) (length processors) (length values)) → r .refusal ≡ 0
-    → steps′ ≡ tableAfter (r .refusal) (stepsOf s) steps → processors′ ≡ tableAfter (r .refusal) (processorsOf s) processors
-    → (st₀ : State Val) → Fresh s st₀ → (ms : List Move) → Outcome R s (layoutOf s) (record { steps = steps′; processors = processors′ }) st₀ ms
-plan-outcome R s r steps blocks processors values steps′ processors′ e z p q st₀ fr ms =
-    run-outcome R s (record { steps = steps′; processors = processors′ }) st₀ (plan-accepted s r (length steps) (length blocks) (length processors) (length values) e z)
-    (plan-planned s r steps processors steps′ processors′ z p q) fr ms
+  -- and its step and processor tables begin with the nest's own
+  pub plan-planned : Planned (layoutOf s) (layoutIn (new .steps) (new .processors))
+  plan-planned = record {
+    behind-steps = drop (length (stepsOf s)) (old .steps);
+    behind-processors = drop (length (processorsOf s)) (old .processors);
+    steps = P .1 .0 ∙ made-table (r .refusal) _ (stepsOf s) (old .steps) z refl;
+    processors = P .1 .1 .1 .0 ∙ made-table (r .refusal) _ (processorsOf s) (old .processors) z refl;
+  }
+
+  -- Demand 3 on the tables that the call left
+  pub plan-outcome : {Val : Type 0} (R : Rule Val) (st₀ : State Val) → Fresh s st₀ → (ms : List Move) → Outcome R s (layoutOf s) (layoutIn (new .steps) (new .processors)) st₀ ms
+  plan-outcome R st₀ fr ms = run-outcome R s (layoutIn (new .steps) (new .processors)) st₀ plan-accepted plan-planned fr ms
 
 -- ---- the weighted sum
 
@@ -189,19 +198,19 @@ calls-run R s L st ms numbers last (call {st′ = st′} {ms = rest} {numbers = 
 
 -- ---- the messages that are ever delivered
 
--- every list of moves can be continued until no iteration is missing
-pub can-complete : (s : LoopNest) → refusal s ≡ 0 → (ms : List Move) → (more : List Move) × NoneMissing s (referenceRun s (layoutOf s) (ms ++ more))
-can-complete s ok ms =
-    let sd = run-sound s (layoutOf s) freshMachine ms (fresh-sound s (layoutOf s)) in
-    let r = finish s (layoutOf s) (causal s ok) (length (pointsOf s) + length (pointsOf s) * countOf s) (referenceRun s (layoutOf s) ms) sd (omega arith) in
-    (r .0, λ k l. ap (λ (b : Machine). b .computed k) (machine-append s (layoutOf s) freshMachine ms (r .0)) ∙ r .1 k l)
+-- every list of moves on a causal layout can be continued until no iteration is missing
+pub can-complete : (s : LoopNest) (M : Layout) → refusal s ≡ 0 → Causal s M → (ms : List Move) → (more : List Move) × NoneMissing s (referenceRun s M (ms ++ more))
+can-complete s M ok C ms =
+    let sd = run-sound s M freshMachine ms (fresh-sound s M) in
+    let r = finish s M (ordered s M ok C) (length (pointsOf s) + length (pointsOf s) * countOf s) (referenceRun s M ms) sd (omega arith) in
+    (r .0, λ k l. ap (λ (b : Machine). b .computed k) (machine-append s M freshMachine ms (r .0)) ∙ r .1 k l)
 
 -- the pairs that the reference machine can ever deliver are the messages; `messages-counted` says that `messageCount` is their number
-pub deliverable-iff : (s : LoopNest) → refusal s ≡ 0 → (k i : ℕ)
-    → ((ms : List Move) × (referenceRun s (layoutOf s) ms .delivered k i ≡ true)) ↔ ((k < length (pointsOf s)) × (i < countOf s) × (isMessage s (processorsOf s) k i ≡ true))
-deliverable-iff s ok k i = (
-  λ d. run-sound s (layoutOf s) freshMachine (d .0) (fresh-sound s (layoutOf s)) .messages k i (d .1),
+pub deliverable-iff : (s : LoopNest) (M : Layout) → refusal s ≡ 0 → Causal s M → (k i : ℕ)
+    → ((ms : List Move) × (referenceRun s M ms .delivered k i ≡ true)) ↔ ((k < length (pointsOf s)) × (i < countOf s) × (isMessage s (M .processors) k i ≡ true))
+deliverable-iff s M ok C k i = (
+  λ d. run-sound s M freshMachine (d .0) (fresh-sound s M) .messages k i (d .1),
   λ m.
-      let r = can-complete s ok [] in
-      (r .0, all-delivered s (layoutOf s) (referenceRun s (layoutOf s) (r .0)) (run-sound s (layoutOf s) freshMachine (r .0) (fresh-sound s (layoutOf s))) (r .1) k i (m .0) (m .1) ∙ m .2),
+      let r = can-complete s M ok C [] in
+      (r .0, all-delivered s M (referenceRun s M (r .0)) (run-sound s M freshMachine (r .0) (fresh-sound s M)) (r .1) k i (m .0) (m .1) ∙ m .2),
 )

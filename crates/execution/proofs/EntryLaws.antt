@@ -23,7 +23,7 @@ use Rattle.execution.specs.declared.Answer.{Answer}
 use Rattle.execution.specs.declared.Answer.the-variants.{Computed, Delivered, Refused}
 use Rattle.execution.specs.Rules.{every, Move, compute, deliver, Effect, refuse, iteration, message, answer, Layout, View, there, sourceDone, ready, taking, effect}
 use Rattle.execution.specs.Run.{State, bit, stateView, moveRefusal, stateRefusal, moveEffect, moveAnswer, after, moveAfter}
-use Rattle.execution.specs.Entry.{layoutIn, stateIn, viewIn, rankOr, numberOf, answerOf}
+use Rattle.execution.specs.Entry.{layoutIn, stateIn, viewIn, rankOr, numberOf, answerOf, Makes}
 use Rattle.execution.proofs.Base.{eq?, and-right, every-same}
 use Rattle.execution.proofs.RuleLaws.{effect-number, Numbered, taking-none, taking-ready, taking-waits, delivering-ready, delivering-refused, compute-there, compute-nowhere, deliver-there, deliver-nowhere}
 use Rattle.execution.proofs.FindingLaws.{takenOf, taken-none, taken-some}
@@ -177,12 +177,8 @@ module _ (s : LoopNest) (steps processors values done delivered : List ℕ) (mv 
   abbrev st : State ℕ
   st = stateIn values done delivered
 
-  -- what its contract says of its answer and of the state that it leaves
-  abbrev pub Made : Answer → State ℕ → Type 0
-  Made r st′ = (r ≡ answerOf s values (moveEffect s L st mv)) × ((numberOf r ≡ moveAnswer s L st mv) × (st′ ≡ moveAfter (ruleOf s) s L st mv))
-
   -- by the effect
-  made-by : (x : Effect) (r : Answer) (st′ : State ℕ) → moveEffect s L st mv ≡ x → Done s st x r st′ → Made r st′
+  made-by : (x : Effect) (r : Answer) (st′ : State ℕ) → moveEffect s L st mv ≡ x → Done s st x r st′ → Makes s L st mv r st′
   made-by x r st′ e d =
       let f = by-effect s st (moveEffect s L st mv) x r st′ e d in
       (f .0, (ap numberOf (f .0) ∙ number-answer s values (moveEffect s L st mv), f .1))
@@ -193,11 +189,11 @@ module _ (s : LoopNest) (steps processors values done delivered : List ℕ) (mv 
   effect-refused h = rw (ne-eqb (stateRefusal s L st) 0 h, moveEffect) refl
 
   -- and the answer
-  refused-before : (a : ℕ) → stateRefusal s L st ≡ a → a ≢ 0 → Made (Refused a) st
+  refused-before : (a : ℕ) → stateRefusal s L st ≡ a → a ≢ 0 → Makes s L st mv (Refused a) st
   refused-before a e h = made-by (refuse a) (Refused a) st (effect-refused (λ z. h (sym e ∙ z)) ∙ ap refuse e) (refused s st a)
 
   -- the nest is refused
-  pub refused-nest : (a : ℕ) → a ≡ refusal s → a ≢ 0 → Made (Refused a) st
+  pub refused-nest : (a : ℕ) → a ≡ refusal s → a ≢ 0 → Makes s L st mv (Refused a) st
   unfolding moveRefusal
   refused-nest a e h =
       let n = length (pointsOf s) in
@@ -218,7 +214,7 @@ module _ (s : LoopNest) (steps processors values done delivered : List ℕ) (mv 
         ∙ ap (λ m. orElse (noRoom m (length steps) (length processors) (length values) (length done)) (shortBuffer m (length delivered))) (sym count)
 
     -- a buffer is too short
-    pub short-buffer : (a : ℕ) → a ≡ room → a ≢ 0 → Made (Refused a) st
+    pub short-buffer : (a : ℕ) → a ≡ room → a ≢ 0 → Makes s L st mv (Refused a) st
     short-buffer a e h = refused-before a (behind ∙ sym e) h
 
     -- none is
@@ -233,7 +229,7 @@ module _ (s : LoopNest) (steps processors values done delivered : List ℕ) (mv 
     effect-ruled e = rw (e, moveEffect) refl
 
     -- on the move that the request names
-    pub made-move : room ≡ 0 → (mv₀ : Move) → mv ≡ mv₀ → (r : Answer) (st′ : State ℕ) → Done s st (effect s (viewIn steps processors done delivered) mv₀) r st′ → Made r st′
+    pub made-move : room ≡ 0 → (mv₀ : Move) → mv ≡ mv₀ → (r : Answer) (st′ : State ℕ) → Done s st (effect s (viewIn steps processors done delivered) mv₀) r st′ → Makes s L st mv r st′
     made-move e mv₀ q r st′ d =
         let v = viewIn steps processors done delivered in
         made-by (effect s v mv₀) r st′ (effect-ruled (behind ∙ e) ∙ ap (effect s v) q) d

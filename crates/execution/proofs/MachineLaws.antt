@@ -1,4 +1,4 @@
--- The machine on any layout: what its moves do, how many are allowed, and that one is while an iteration is missing. `Causal` is what a layout has to satisfy; that
+-- The machine on any layout: what its moves do, how many are allowed, and that one is while an iteration is missing. `Ordered` is what a layout has to satisfy; that
 -- the planner's does is shown in proofs/Demand.antt.
 -- Assumes nothing.
 use mathlib.Core.Path.{_≡_, refl, sym, ap, ap₂, subst, _∙_}
@@ -24,8 +24,8 @@ use Rattle.execution.specs.Machine.{Machine, freshMachine, machineAfter,
 use Rattle.execution.proofs.Base.{opt, both, and-left, and-right, or-cases, and-eqb, sum-same, sum-more, sum-zero, count-same, count-more, count-all, count-zero, every-true, every-false, Least, least-none, least-some}
 use Rattle.execution.proofs.RuleLaws.{there-own, there-other, message-none, message-some, taking-ready, delivering-ready, taken, compute-there, deliver-there, by-move}
 
--- a source has a smaller rank and an earlier step, and each processor is one of the machine's
-pub record Causal (s : LoopNest) (L : Layout) : Type 0 where
+-- what is used of an accepted nest and a causal layout: a source has a smaller rank and an earlier step, and each processor is one of the machine's
+pub record Ordered (s : LoopNest) (L : Layout) : Type 0 where
   pub earlier : (k i j : ℕ) → k < length (pointsOf s) → i < countOf s → sourceRank s k i ≡ some j → j < k
   pub sooner : (k i j : ℕ) → k < length (pointsOf s) → i < countOf s → sourceRank s k i ≡ some j → getD (L .steps) j 0 < getD (L .steps) k 0
   pub housed : (k : ℕ) → k < length (pointsOf s) → getD (L .processors) k 0 < 2 ^ toℕ (s .cube)
@@ -212,7 +212,7 @@ module _ (s : LoopNest) (L : Layout) where
     can-deliver k i j hk hi q m c d =
         ap answer (deliver-there s w k i hk hi ∙ delivering-ready s w k i (both m (both (ap (sourceDone w) q ∙ c) (ap not d))))
 
-    module _ (C : Causal s L) where
+    module _ (C : Ordered s L) where
       -- an iteration is not computed
       missing : ℕ → Bool
       missing c = not (b .computed c)
@@ -314,7 +314,7 @@ module _ (s : LoopNest) (L : Layout) where
 
   -- ---- every run can be brought to its end
 
-  module _ (C : Causal s L) where
+  module _ (C : Ordered s L) where
     -- an iteration is missing, so that some move is allowed; or none is
     look : {A : Type 0} (b : Machine) → ((mv : Move) → machineAnswer s L b mv ≡ 0 → A) → (((k : ℕ) → k < length (pointsOf s) → b .computed k ≡ true) → A) → A
     look b more ended = opt (least (λ k. not (b .computed k)) (λ k. 0) (length (pointsOf s)))

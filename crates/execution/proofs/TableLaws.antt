@@ -29,7 +29,7 @@ use Rattle.execution.specs.Run.{State, bit, stateView, moveRefusal, stat
 use Rattle.execution.specs.Claim.{Fresh, Holds}
 use Rattle.execution.proofs.Base.{eq?, yes-one, no-zero, byteOf, byte-same, byte-none, byte-more, bit-byte, bit-beyond}
 use Rattle.execution.proofs.RuleLaws.{Agree, effect-same}
-use Rattle.execution.proofs.MachineLaws.{Causal, Sound, Valid, effect-valid, next-sound}
+use Rattle.execution.proofs.MachineLaws.{Ordered, Sound, Valid, effect-valid, next-sound}
 
 -- ---- the value of an iteration depends on its sources only
 module _ {Val : Type 0} (R : Rule Val) (s : LoopNest) where
@@ -124,7 +124,7 @@ pub record Kept {Val : Type 0} (R : Rule Val) (s : LoopNest) (st₀ : State Val)
   pub done-length : length (st .done) ≡ length (st₀ .done)
   pub delivered-length : length (st .delivered) ≡ length (st₀ .delivered)
 
-module _ {Val : Type 0} (R : Rule Val) (s : LoopNest) (ok : refusal s ≡ 0) (L M : Layout) (C : Causal s M) (same : SameLayout s L M) (st₀ : State Val) (fr : Fresh s st₀) where
+module _ {Val : Type 0} (R : Rule Val) (s : LoopNest) (ok : refusal s ≡ 0) (L M : Layout) (C : Ordered s M) (same : SameLayout s L M) (st₀ : State Val) (fr : Fresh s st₀) where
   -- it holds at the start
   pub fresh-kept : Kept R s st₀ freshMachine st₀
   fresh-kept = record {

@@ -17,8 +17,8 @@ use Rattle.nest.specs.Points.{pointsOf}
 use Rattle.nest.specs.Sources.{sourceRank}
 use Rattle.mapping.specs.Mapping.{isMessage}
 use Rattle.mapping.proofs.Theorems.{message-true, true-message}
-use Rattle.execution.specs.Rules.{every, Move, compute, deliver, Effect, refuse, iteration, message, answer, Layout, View, stepIn, processorIn, waits, there, sourceDone, taking, effect, ready}
-use Rattle.execution.specs.Machine.{Machine, machineAfter, machineView, machineNext, machineRun, machineAnswers}
+use Rattle.execution.specs.Rules.{every, Move, compute, deliver, Effect, refuse, iteration, message, Layout, View, stepIn, processorIn, waits, there, sourceDone, taking, effect, ready}
+use Rattle.execution.specs.Machine.{Machine, machineAfter, machineView, machineNext, machineRun, machineTold}
 use Rattle.execution.specs.Words.{Takes, Present, Absent, Sent, Says, no-processor, idle-processor, waiting, computes, no-place, out-of-turn, delivers, SaysList, no-move, next-move}
 use Rattle.execution.proofs.Base.{eq?, opt, both, and-left, and-right, every-true, every-false, every-intro, every-refute, least-none, least-some, least-empty, least-unique}
 use Rattle.execution.proofs.RuleLaws.{there-own, there-other, taking-none, taking-ready, taking-waits, delivering-ready, delivering-refused, taken, compute-there, compute-nowhere, deliver-there, deliver-nowhere, by-move}
@@ -167,19 +167,19 @@ module _ (s : LoopNest) (v : View) where
 
 -- ---- a whole list of moves
 
-module _ (s : LoopNest) (L : Layout) where
+module _ {A : Type 0} (tell : Effect → A) (s : LoopNest) (L : Layout) where
   -- what the machine does is what the sentences say
-  pub list-says : (b : Machine) (ms : List Move) → SaysList s L b ms (machineAnswers s L b ms) (machineRun s L b ms)
+  pub list-says : (b : Machine) (ms : List Move) → SaysList tell s L b ms (machineTold s L tell b ms) (machineRun s L b ms)
   list-says b [] = no-move
   list-says b (mv ∷ ms) = next-move (effect-says s (machineView L b) mv) (list-says (machineNext s L b mv) ms)
 
   -- and they say nothing else
-  pub list-unique : (b : Machine) (ms : List Move) (numbers : List ℕ) (last : Machine) → SaysList s L b ms numbers last
-      → (numbers ≡ machineAnswers s L b ms) × (last ≡ machineRun s L b ms)
-  list-unique b ms numbers last no-move = (refl, refl)
-  list-unique b ms numbers last (next-move {mv = mv} {ms = rest} {x = x} {numbers = others} w r) =
+  pub list-unique : (b : Machine) (ms : List Move) (told : List A) (last : Machine) → SaysList tell s L b ms told last
+      → (told ≡ machineTold s L tell b ms) × (last ≡ machineRun s L b ms)
+  list-unique b ms told last no-move = (refl, refl)
+  list-unique b ms told last (next-move {mv = mv} {ms = rest} {x = x} {told = others} w r) =
       let e : effect s (machineView L b) mv ≡ x = says-unique s (machineView L b) mv x w in
       let h = list-unique (machineAfter b x) rest others last r in (
-        ap₂ _∷_ (ap answer (sym e)) (h .0 ∙ ap (λ y. machineAnswers s L (machineAfter b y) rest) (sym e)),
+        ap₂ _∷_ (ap tell (sym e)) (h .0 ∙ ap (λ y. machineTold s L tell (machineAfter b y) rest) (sym e)),
         h .1 ∙ ap (λ y. machineRun s L (machineAfter b y) rest) (sym e),
       )

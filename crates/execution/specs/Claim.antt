@@ -1,15 +1,17 @@
--- Demand 3 as one statement about a whole list of moves. Its hypotheses are that the nest is accepted, `Planned` and `Fresh`; its conclusion is `Outcome`.
--- proofs/Demand.antt proves it of every accepted nest.
+-- Demand 3 as one statement about a whole list of moves, on any layout that is `Causal`; the planner's is one. The other hypotheses are that the nest is accepted, `Planned` and
+-- `Fresh`; the conclusion is `Outcome`. proofs/Demand.antt proves it of every accepted nest.
 -- Assumes nothing.
 use mathlib.Core.Path.{_≡_}
 use mathlib.Core.Bool.{true, false}
 use mathlib.Core.List.{List, [], _∷_, _++_}
 use mathlib.Core.Logic.{_≢_}
-use Prim.Native.Nat.{ℕ, _+_, _≤_, _<_}
+use mathlib.Core.Option.{some}
+use Prim.Native.Nat.{ℕ, _+_, _^_, _≤_, _<_}
 use lib.ListN.{length, getD, drop}
 use Rattle.nest.specs.declared.LoopNest.{LoopNest}
-use Rattle.nest.specs.Nest.{countOf}
+use Rattle.nest.specs.Nest.{toℕ, countOf}
 use Rattle.nest.specs.Points.{pointsOf}
+use Rattle.nest.specs.Sources.{sourceRank}
 use Rattle.mapping.specs.Mapping.{isMessage}
 use Rattle.sequential.specs.Sequential.{Rule, sequential}
 use Rattle.execution.specs.Rules.{Move, Layout}
@@ -18,7 +20,14 @@ use Rattle.execution.specs.Run.{State, bit, withValue, withBit, stateRef
 
 -- ---- hypotheses
 
--- the tables are those that the planner made for the nest, whatever stands behind them
+-- a layout that a nest can be run on: a step and a processor for each iteration, every dependence leads to a later step, and each processor is one of the machine's
+pub record Causal (s : LoopNest) (M : Layout) : Type 0 where
+  pub steps-each : length (M .steps) ≡ length (pointsOf s)
+  pub processors-each : length (M .processors) ≡ length (pointsOf s)
+  pub sooner : (k i j : ℕ) → k < length (pointsOf s) → i < countOf s → sourceRank s k i ≡ some j → getD (M .steps) j 0 < getD (M .steps) k 0
+  pub housed : (k : ℕ) → k < length (pointsOf s) → getD (M .processors) k 0 < 2 ^ toℕ (s .cube)
+
+-- lent tables begin with those of a layout, whatever stands behind them
 pub record Planned (M L : Layout) : Type 0 where
   pub behind-steps : List ℕ
   pub behind-processors : List ℕ

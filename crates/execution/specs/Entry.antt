@@ -12,8 +12,7 @@ use Rattle.execution.specs.declared.Move as asked
 use Rattle.execution.specs.declared.Move.the-variants.{Compute, Deliver}
 use Rattle.execution.specs.declared.Answer.{Answer}
 use Rattle.execution.specs.declared.Answer.the-variants.{Computed, Delivered, Refused}
-use Rattle.execution.specs.Rules.{Move, compute, deliver, Effect, refuse, iteration, message, Layout, View, effect}
-use Rattle.execution.specs.Machine.{Machine, machineView, machineNext}
+use Rattle.execution.specs.Rules.{Move, compute, deliver, Effect, refuse, iteration, message, Layout, View}
 use Rattle.execution.specs.Run.{State, stateView, moveEffect, moveAnswer, moveAfter}
 
 -- ---- lent buffers
@@ -56,27 +55,21 @@ answerOf s values (message k i) = Delivered (record { rank = k; dependence = i }
 
 -- ---- calls of the entry
 
--- what `make_move` promises of a call on this layout and state: its answer, the answer's number, and the state that it leaves
-abbrev pub Made : LoopNest → Layout → State ℕ → asked.Move → Answer → State ℕ → Type 0
-Made s L st what r st′ =
-    (r ≡ answerOf s (st .values) (moveEffect s L st (moveOf what))) × ((numberOf r ≡ moveAnswer s L st (moveOf what)) × (st′ ≡ moveAfter (ruleOf s) s L st (moveOf what)))
+-- what a call of `make_move` promises that finds this layout and state, answers r and leaves the state st′: the answer, its number, and the state
+abbrev pub Makes : LoopNest → Layout → State ℕ → Move → Answer → State ℕ → Type 0
+Makes s L st mv r st′ =
+    (r ≡ answerOf s (st .values) (moveEffect s L st mv)) × ((numberOf r ≡ moveAnswer s L st mv) × (st′ ≡ moveAfter (ruleOf s) s L st mv))
 
--- A list of calls of `make_move`, each with the same nest and tables and with the state as the call before left it: the premises are what its contract says of the answer, of
--- its number and of the three buffers.
+-- a list of calls of `make_move`, each with the same nest and tables and with the state as the call before left it
 pub data EntryCalls (s : LoopNest) (L : Layout) : State ℕ → List asked.Move → List Answer → State ℕ → Type 0 where
   no-entry : {st : State ℕ} → EntryCalls s L st [] [] st
   entry : {st st′ last : State ℕ} {what : asked.Move} {whats : List asked.Move} {r : Answer} {rs : List Answer}
-      → Made s L st what r st′ → EntryCalls s L st′ whats rs last → EntryCalls s L st (what ∷ whats) (r ∷ rs) last
+      → Makes s L st (moveOf what) r st′ → EntryCalls s L st′ whats rs last → EntryCalls s L st (what ∷ whats) (r ∷ rs) last
 
 -- ---- the answers in full
 
--- what an effect of the reference machine is told as: a computed iteration with the sequential loop's value
+-- how an effect of the reference machine is told: a refused move by its number, a computed iteration by its rank and the sequential loop's value, a delivered message by its rank and dependence
 unfoldable pub toldBy : LoopNest → Effect → Answer
 toldBy s (refuse number) = Refused number
 toldBy s (iteration k) = Computed (record { rank = k; value = getD (valuesOf s) k 0 })
 toldBy s (message k i) = Delivered (record { rank = k; dependence = i })
-
--- a list of moves on a layout, from what the machine holds
-abbrev pub told : LoopNest → Layout → Machine → List asked.Move → List Answer
-told s M b [] = []
-told s M b (what ∷ whats) = toldBy s (effect s (machineView M b) (moveOf what)) ∷ told s M (machineNext s M b (moveOf what)) whats

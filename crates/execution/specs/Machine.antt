@@ -55,10 +55,14 @@ module _ (s : LoopNest) (L : Layout) where
   machineRun b [] = b
   machineRun b (mv ∷ ms) = machineRun (machineNext b mv) ms
 
+  -- what they are answered, where each effect is told so
+  abbrev pub machineTold : {A : Type 0} → (Effect → A) → Machine → List Move → List A
+  machineTold tell b [] = []
+  machineTold tell b (mv ∷ ms) = tell (effect s (machineView L b) mv) ∷ machineTold tell (machineNext b mv) ms
+
   -- the numbers that they are answered
   abbrev pub machineAnswers : Machine → List Move → List ℕ
-  machineAnswers b [] = []
-  machineAnswers b (mv ∷ ms) = machineAnswer b mv ∷ machineAnswers (machineNext b mv) ms
+  machineAnswers b ms = machineTold answer b ms
 
 -- ---- the reference machine of a nest and of a plan's layout
 

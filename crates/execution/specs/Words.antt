@@ -12,7 +12,7 @@ use Rattle.nest.specs.Nest.{toℕ, countOf}
 use Rattle.nest.specs.Points.{pointsOf}
 use Rattle.nest.specs.Sources.{sourceRank}
 use Rattle.mapping.proofs.Theorems.{Message}
-use Rattle.execution.specs.Rules.{Move, compute, deliver, Effect, refuse, iteration, message, answer, Layout, View, stepIn, processorIn}
+use Rattle.execution.specs.Rules.{Move, compute, deliver, Effect, refuse, iteration, message, Layout, View, stepIn, processorIn}
 use Rattle.execution.specs.Machine.{Machine, machineAfter, machineView}
 
 -- processor p takes its missing (not done) iteration least in step, then in rank
@@ -55,8 +55,8 @@ pub data Says (s : LoopNest) (v : View) : Move → Effect → Type 0 where
   delivers : {k i : ℕ} → k < length (pointsOf s) → i < countOf s → (m : Sent s v k i) → v .done (m .rank) ≡ true → v .delivered k i ≡ false
       → Says s v (deliver k i) (message k i)
 
--- a whole list of moves, by the sentences alone: what a machine that holds b answers on this layout, and what it then holds
-pub data SaysList (s : LoopNest) (L : Layout) : Machine → List Move → List ℕ → Machine → Type 0 where
-  no-move : {b : Machine} → SaysList s L b [] [] b
-  next-move : {b last : Machine} {mv : Move} {ms : List Move} {x : Effect} {numbers : List ℕ} → Says s (machineView L b) mv x → SaysList s L (machineAfter b x) ms numbers last
-      → SaysList s L b (mv ∷ ms) (answer x ∷ numbers) last
+-- a whole list of moves, by the sentences alone: what a machine that holds b answers on this layout, each effect told so, and what it then holds
+pub data SaysList {A : Type 0} (tell : Effect → A) (s : LoopNest) (L : Layout) : Machine → List Move → List A → Machine → Type 0 where
+  no-move : {b : Machine} → SaysList tell s L b [] [] b
+  next-move : {b last : Machine} {mv : Move} {ms : List Move} {x : Effect} {told : List A} → Says s (machineView L b) mv x → SaysList tell s L (machineAfter b x) ms told last
+      → SaysList tell s L b (mv ∷ ms) (tell x ∷ told) last

@@ -15,7 +15,7 @@ ghost use Rattle.sequential.specs.Sequential.{ruleOf};
 ghost use Rattle.planner.specs.Plan.{noRoom};
 ghost use Rattle.execution.specs.Rules.{compute, deliver, effect};
 ghost use Rattle.execution.specs.Run.{after, moveEffect, moveAnswer, moveAfter};
-ghost use Rattle.execution.specs.Entry.{layoutIn, stateIn, viewIn, moveOf, numberOf, answerOf, Made};
+ghost use Rattle.execution.specs.Entry.{layoutIn, stateIn, viewIn, moveOf, numberOf, answerOf, Makes};
 
 // waiting: compute, a source is not there
 pub const WAITING: u8 = 15;
@@ -161,7 +161,7 @@ pub fn make_move(
     done: &mut [u8],
     delivered: &mut [u8],
 ) -> Answer
-    ensures { λ r. ⌜ Made s (layoutIn (now (steps .entry)) (now (processors .entry))) (stateIn (now (values .entry)) (now (done .entry)) (now (delivered .entry))) (request .what) r (stateIn (now (values .exit)) (now (done .exit)) (now (delivered .exit))) ⌝ }
+    ensures { λ r. ⌜ Makes s (layoutIn (now (steps .entry)) (now (processors .entry))) (stateIn (now (values .entry)) (now (done .entry)) (now (delivered .entry))) (moveOf (request .what)) r (stateIn (now (values .exit)) (now (done .exit)) (now (delivered .exit))) ⌝ }
 {
     let known = nest::inspect(s);
     let refusal = known.refusal;

@@ -9,19 +9,14 @@ use numbers::move_in;
 use numbers::nest_in;
 use numbers::number_of;
 use numbers::numbers_of;
-ghost use mathlib.Core.Path.{_≡_};
-ghost use lib.ListN.{length};
-ghost use Rattle.nest.specs.Refusals.{refusal, iterations, tableAfter};
-ghost use Rattle.nest_text.specs.Text.{textOf, readRefusal, readNest, writeRefusal, writtenLength, written};
-ghost use Rattle.rows.specs.Rows.{rowRefusal, spanOf};
-ghost use Rattle.partition.specs.Partition.{stepsOf, blocksOf};
-ghost use Rattle.mapping.specs.Mapping.{processorsOf};
-ghost use Rattle.sequential.specs.Sequential.{valuesOf, ruleOf, fillRefusal, filled};
-ghost use Rattle.planner.specs.Plan.{planRefusal, planAnswer, countsIn};
-ghost use Rattle.planner.specs.Listing.{planText};
-ghost use Rattle.execution.specs.Run.{moveEffect, moveAnswer, moveAfter};
-ghost use Rattle.execution.specs.Entry.{layoutIn, stateIn, moveOf, answerOf};
-ghost use Rattle.numbers.specs.Numbers.{nestIn, numbersOf, spanIn, moveIn, madeIn};
+ghost use Rattle.nest.specs.Refusals.{Checks, Inspects};
+ghost use Rattle.nest_text.specs.Text.{Writes};
+ghost use Rattle.rows.specs.Rows.{Locates};
+ghost use Rattle.sequential.specs.Sequential.{Fills};
+ghost use Rattle.planner.specs.Plan.{tablesIn, Plans};
+ghost use Rattle.planner.specs.Listing.{Lists};
+ghost use Rattle.execution.specs.Entry.{layoutIn, stateIn};
+ghost use Rattle.numbers.specs.Numbers.{nestIn, moveIn, spanFrom, planningFrom, ReadsInto, MakesInto};
 
 // How many counts a plan has.
 const COUNTS: usize = 5;
@@ -29,7 +24,7 @@ const COUNTS: usize = 5;
 // The number of a nest's first refusal, 2 to 13, or 0.
 #[no_mangle]
 pub extern "C" fn rowlock_check(numbers: &[i64; NUMBERS]) -> u8
-    ensures { λ r. ⌜ r ≡ refusal (nestIn (now (numbers .entry))) ⌝ }
+    ensures { λ r. ⌜ Checks (nestIn (now (numbers .entry))) r ⌝ }
 {
     nest::check(nest_in(numbers))
 }
@@ -37,8 +32,7 @@ pub extern "C" fn rowlock_check(numbers: &[i64; NUMBERS]) -> u8
 // The same, with the number of iterations of an accepted nest; 0 for a refused one.
 #[no_mangle]
 pub extern "C" fn rowlock_inspect(numbers: &[i64; NUMBERS], n: &mut usize) -> u8
-    ensures { λ r. ⌜ r ≡ refusal (nestIn (now (numbers .entry))) ⌝ }
-    ensures { λ r. ⌜ now (n .exit) ≡ iterations (nestIn (now (numbers .entry))) ⌝ }
+    ensures { λ r. ⌜ Inspects (nestIn (now (numbers .entry))) (record { refusal = r; iterations = now (n .exit) }) ⌝ }
 {
     let known = nest::inspect(nest_in(numbers));
     *n = known.iterations;
@@ -48,8 +42,7 @@ pub extern "C" fn rowlock_inspect(numbers: &[i64; NUMBERS], n: &mut usize) -> u8
 // A nest from its text: 0 with the nest, unused places 0; or the number of the first refusal, 1 to 13, with a nest of zeros.
 #[no_mangle]
 pub extern "C" fn rowlock_read(text: &[u8], numbers: &mut [i64; NUMBERS]) -> u8
-    ensures { λ r. ⌜ r ≡ readRefusal (now (text .entry)) ⌝ }
-    ensures { λ r. ⌜ now (numbers .exit) ≡ numbersOf (readNest (now (text .entry))) ⌝ }
+    ensures { λ r. ⌜ ReadsInto (now (text .entry)) r (now (numbers .exit)) ⌝ }
 {
     let reading = nest_text::read(text);
     *numbers = numbers_of(reading.nest);
@@ -59,9 +52,7 @@ pub extern "C" fn rowlock_read(text: &[u8], numbers: &mut [i64; NUMBERS]) -> u8
 // The text of a nest into a lent buffer, and how many bytes it has; or the number of the first refusal, 2 to 14, with 0 bytes and the buffer as it was.
 #[no_mangle]
 pub extern "C" fn rowlock_write(numbers: &[i64; NUMBERS], out: &mut [u8], bytes: &mut usize) -> u8
-    ensures { λ r. ⌜ r ≡ writeRefusal (refusal (nestIn (now (numbers .entry)))) (textOf (nestIn (now (numbers .entry)))) (length (now (out .entry))) ⌝ }
-    ensures { λ r. ⌜ now (bytes .exit) ≡ writtenLength (refusal (nestIn (now (numbers .entry)))) (textOf (nestIn (now (numbers .entry)))) (length (now (out .entry))) ⌝ }
-    ensures { λ r. ⌜ now (out .exit) ≡ written (refusal (nestIn (now (numbers .entry)))) (textOf (nestIn (now (numbers .entry)))) (now (out .entry)) ⌝ }
+    ensures { λ r. ⌜ Writes (nestIn (now (numbers .entry))) (now (out .entry)) (record { refusal = r; length = now (bytes .exit) }) (now (out .exit)) ⌝ }
 {
     let writing = nest_text::write(nest_in(numbers), out);
     *bytes = writing.length;
@@ -76,8 +67,7 @@ pub extern "C" fn rowlock_locate(
     index: i64,
     span: &mut [usize; 2],
 ) -> u8
-    ensures { λ r. ⌜ r ≡ rowRefusal (nestIn (now (numbers .entry))) entries index ⌝ }
-    ensures { λ r. ⌜ now (span .exit) ≡ spanIn (spanOf (nestIn (now (numbers .entry))) entries index) ⌝ }
+    ensures { λ r. ⌜ Locates (nestIn (now (numbers .entry))) entries index (spanFrom r (now (span .exit))) ⌝ }
 {
     let at = rows::locate(nest_in(numbers), entries, index);
     *span = [at.start, at.length];
@@ -87,8 +77,7 @@ pub extern "C" fn rowlock_locate(
 // The values of the sequential loop into a lent table; or the number of the first refusal, 2 to 14, with the table as it was.
 #[no_mangle]
 pub extern "C" fn rowlock_fill(numbers: &[i64; NUMBERS], values: &mut [u16]) -> u8
-    ensures { λ r. ⌜ r ≡ fillRefusal (nestIn (now (numbers .entry))) (length (now (values .entry))) ⌝ }
-    ensures { λ r. ⌜ now (values .exit) ≡ filled (nestIn (now (numbers .entry))) (now (values .entry)) ⌝ }
+    ensures { λ r. ⌜ Fills (nestIn (now (numbers .entry))) (now (values .entry)) r (now (values .exit)) ⌝ }
 {
     sequential::fill(nest_in(numbers), values)
 }
@@ -104,12 +93,7 @@ pub extern "C" fn rowlock_plan(
     values: &mut [u16],
     counts: &mut [usize; COUNTS],
 ) -> u8
-    ensures { λ r. ⌜ r ≡ planRefusal (nestIn (now (numbers .entry))) (length (now (steps .entry))) (length (now (blocks .entry))) (length (now (processors .entry))) (length (now (values .entry))) ⌝ }
-    ensures { λ r. ⌜ now (counts .exit) ≡ countsIn (planAnswer (nestIn (now (numbers .entry))) r) ⌝ }
-    ensures { λ r. ⌜ now (steps .exit) ≡ tableAfter r (stepsOf (nestIn (now (numbers .entry)))) (now (steps .entry)) ⌝ }
-    ensures { λ r. ⌜ now (blocks .exit) ≡ tableAfter r (blocksOf (nestIn (now (numbers .entry)))) (now (blocks .entry)) ⌝ }
-    ensures { λ r. ⌜ now (processors .exit) ≡ tableAfter r (processorsOf (nestIn (now (numbers .entry)))) (now (processors .entry)) ⌝ }
-    ensures { λ r. ⌜ now (values .exit) ≡ tableAfter r (valuesOf (nestIn (now (numbers .entry)))) (now (values .entry)) ⌝ }
+    ensures { λ r. ⌜ Plans (nestIn (now (numbers .entry))) (tablesIn (now (steps .entry)) (now (blocks .entry)) (now (processors .entry)) (now (values .entry))) (planningFrom r (now (counts .exit))) (tablesIn (now (steps .exit)) (now (blocks .exit)) (now (processors .exit)) (now (values .exit))) ⌝ }
 {
     let answer = planner::plan(nest_in(numbers), steps, blocks, processors, values);
     *counts = [
@@ -126,9 +110,7 @@ pub extern "C" fn rowlock_plan(
 // the buffer as it was.
 #[no_mangle]
 pub extern "C" fn rowlock_list(text: &[u8], out: &mut [u8], bytes: &mut usize) -> u8
-    ensures { λ r. ⌜ r ≡ writeRefusal (readRefusal (now (text .entry))) (planText (readNest (now (text .entry)))) (length (now (out .entry))) ⌝ }
-    ensures { λ r. ⌜ now (bytes .exit) ≡ writtenLength (readRefusal (now (text .entry))) (planText (readNest (now (text .entry)))) (length (now (out .entry))) ⌝ }
-    ensures { λ r. ⌜ now (out .exit) ≡ written (readRefusal (now (text .entry))) (planText (readNest (now (text .entry)))) (now (out .entry)) ⌝ }
+    ensures { λ r. ⌜ Lists (now (text .entry)) (now (out .entry)) (record { refusal = r; length = now (bytes .exit) }) (now (out .exit)) ⌝ }
 {
     let listing = planner::list(text, out);
     *bytes = listing.length;
@@ -151,9 +133,7 @@ pub extern "C" fn rowlock_move(
     delivered: &mut [u8],
     made: &mut [usize; 2],
 ) -> u8
-    ensures { λ r. ⌜ r ≡ moveAnswer (nestIn (now (numbers .entry))) (layoutIn (now (steps .entry)) (now (processors .entry))) (stateIn (now (values .entry)) (now (done .entry)) (now (delivered .entry))) (moveOf (moveIn kind first second)) ⌝ }
-    ensures { λ r. ⌜ now (made .exit) ≡ madeIn (answerOf (nestIn (now (numbers .entry))) (now (values .entry)) (moveEffect (nestIn (now (numbers .entry))) (layoutIn (now (steps .entry)) (now (processors .entry))) (stateIn (now (values .entry)) (now (done .entry)) (now (delivered .entry))) (moveOf (moveIn kind first second)))) ⌝ }
-    ensures { λ r. ⌜ stateIn (now (values .exit)) (now (done .exit)) (now (delivered .exit)) ≡ moveAfter (ruleOf (nestIn (now (numbers .entry)))) (nestIn (now (numbers .entry))) (layoutIn (now (steps .entry)) (now (processors .entry))) (stateIn (now (values .entry)) (now (done .entry)) (now (delivered .entry))) (moveOf (moveIn kind first second)) ⌝ }
+    ensures { λ r. ⌜ MakesInto (nestIn (now (numbers .entry))) (layoutIn (now (steps .entry)) (now (processors .entry))) (stateIn (now (values .entry)) (now (done .entry)) (now (delivered .entry))) (moveIn kind first second) r (now (made .exit)) (stateIn (now (values .exit)) (now (done .exit)) (now (delivered .exit))) ⌝ }
 {
     let what = move_in(kind, first, second);
     let request = Request { what: what };

@@ -10,7 +10,7 @@ ghost use Rattle.integers.specs.Lists.{any, repeats, tab};
 ghost use Rattle.integers.specs.Vector.{dots, eqV};
 ghost use Rattle.nest.specs.Nest.{emptyNest, withComponent, padded, part, toℕ, depthOf, countOf, limitAt, dependenceAt, maxDepth, maxDependences, maxCube, maxLimit, maxIterations, maxComponent, maxBoundary, maxWeight};
 ghost use Rattle.nest.specs.Points.{extent, points, pointsOf, pointCount, rank, isPoint, source};
-ghost use Rattle.nest.specs.Refusals.{outside, crossed, outOfSpan, backward, refusal, firstMet, headerOrder, limitOrder, vectorOrder, weightOrder, iterations, dependence};
+ghost use Rattle.nest.specs.Refusals.{outside, crossed, outOfSpan, backward, refusal, firstMet, headerOrder, limitOrder, vectorOrder, weightOrder, dependence, Checks, Inspects};
 
 // no such depth: n out of span
 pub const BAD_DEPTH: u8 = 2;
@@ -473,7 +473,7 @@ fn check_weights(s: LoopNest, m: usize) -> u8
 
 // The number of the first refusal, 2 to 13 in the document's order, of a nest with any content; 0 where it is accepted.
 pub fn check(s: LoopNest) -> u8
-    ensures { λ r. ⌜ r ≡ refusal s ⌝ }
+    ensures { λ r. ⌜ Checks s r ⌝ }
 {
     let header = check_header(s);
     if header != 0 {
@@ -500,7 +500,7 @@ pub struct Inspection {
 
 // `check`, with the number of iterations of an accepted nest; 0 for a refused one.
 pub fn inspect(s: LoopNest) -> Inspection
-    ensures { λ r. ⌜ r ≡ record { refusal = refusal s; iterations = iterations s } ⌝ }
+    ensures { λ r. ⌜ Inspects s r ⌝ }
 {
     let refusal = check(s);
     if refusal != 0 {

@@ -12,16 +12,11 @@ use Rattle.nest.specs.Refusals.{shortBuffer}
 use Rattle.nest.proofs.Entries.{orElse-first, orElse-second, long-enough, too-short, same-table, made-table}
 use Rattle.nest_text.specs.declared.Writing.{Writing}
 use Rattle.nest_text.specs.Fields.{Bytes}
-use Rattle.nest_text.specs.Text.{writeRefusal, writtenLength, written}
-
--- what the call is to answer, and to leave in the buffer
-abbrev pub Written : ℕ → Bytes → Bytes → Writing → Bytes → Type 0
-Written number bytes old r new =
-    (r ≡ record { refusal = writeRefusal number bytes (length old); length = writtenLength number bytes (length old) }) × (new ≡ written number bytes old)
+use Rattle.nest_text.specs.Text.{writeRefusal, writtenLength, written, Puts}
 
 module _ (number : ℕ) (bytes old : Bytes) where
   -- a refusal leaves the buffer as it was
-  refused : (k : ℕ) → k ≡ writeRefusal number bytes (length old) → (k ≡ 0 → ⊥) → Written number bytes old (record { refusal = k; length = 0 }) old
+  refused : (k : ℕ) → k ≡ writeRefusal number bytes (length old) → (k ≡ 0 → ⊥) → Puts number bytes old (record { refusal = k; length = 0 }) old
   unfolding writtenLength written
   refused k e h =
       let f = ne-eqb (writeRefusal number bytes (length old)) 0 (λ z. h (e ∙ z)) in (
@@ -30,7 +25,7 @@ module _ (number : ℕ) (bytes old : Bytes) where
       )
 
   -- refused with the call's own number
-  pub refused-first : (k : ℕ) → k ≡ number → (k ≡ 0 → ⊥) → Written number bytes old (record { refusal = k; length = 0 }) old
+  pub refused-first : (k : ℕ) → k ≡ number → (k ≡ 0 → ⊥) → Puts number bytes old (record { refusal = k; length = 0 }) old
   unfolding writeRefusal
   refused-first k e h = refused k (e ∙ sym (orElse-first number (shortBuffer (length bytes) (length old)) (λ z. h (e ∙ z)))) h
 
@@ -41,11 +36,11 @@ module _ (number : ℕ) (bytes old : Bytes) where
     second-answer = orElse-second number (shortBuffer (length bytes) (length old)) e
 
     -- 14
-    pub refused-short : length old < length bytes → Written number bytes old (record { refusal = 14; length = 0 }) old
+    pub refused-short : length old < length bytes → Puts number bytes old (record { refusal = 14; length = 0 }) old
     refused-short h = refused 14 (sym (second-answer ∙ too-short (length bytes) (length old) h)) (λ z. absurd (omega arith))
 
     -- the bytes, and behind them what stood there
-    pub bytes-written : (n : ℕ) (new : Bytes) → n ≡ length bytes → length bytes ≤ length old → new ≡ sets old 0 bytes → Written number bytes old (record { refusal = 0; length = n }) new
+    pub bytes-written : (n : ℕ) (new : Bytes) → n ≡ length bytes → length bytes ≤ length old → new ≡ sets old 0 bytes → Puts number bytes old (record { refusal = 0; length = n }) new
     unfolding writtenLength written
     bytes-written n new p h q =
         let room : 0 + length bytes ≤ length old = omega arith in

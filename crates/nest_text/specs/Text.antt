@@ -11,7 +11,9 @@ use lib.ListN.{length, getD, take, drop, replicate}
 use Rattle.integers.specs.Lists.{any, tab}
 use Rattle.nest.specs.declared.LoopNest.{LoopNest}
 use Rattle.nest.specs.Nest.{depthOf, countOf, limitsOf, timeOf, dependencesOf, weightsOf, nestOf, emptyNest, maxDepth, maxDependences}
-use Rattle.nest.specs.Refusals.{firstMet, headerOrder, bodyOrder, orElse, shortBuffer, tableAfter, Met}
+use Rattle.nest.specs.Refusals.{firstMet, headerOrder, bodyOrder, refusal, orElse, shortBuffer, tableAfter, Met}
+use Rattle.nest_text.specs.declared.Reading.{Reading}
+use Rattle.nest_text.specs.declared.Writing.{Writing}
 use Rattle.nest_text.specs.declared.fields.Field.{Field}
 use Rattle.nest_text.specs.declared.fields.Field.the-variants.{Number, Malformed}
 use Rattle.nest_text.specs.Fields.{Bytes, columns, newline, fieldOf, readOf}
@@ -141,3 +143,18 @@ writtenLength number bytes room = elim (eqb (writeRefusal number bytes room) 0) 
 -- what the buffer then holds: the bytes and what stood behind them, or all that it held before
 unfoldable pub written : ℕ → Bytes → Bytes → Bytes
 written number bytes old = tableAfter (writeRefusal number bytes (length old)) bytes old
+
+-- ---- what calls promise
+
+-- a call of `read` that answers r
+abbrev pub Reads : Bytes → Reading → Type 0
+Reads text r = r ≡ record { refusal = readRefusal text; nest = readNest text }
+
+-- a call that writes bytes, unless it is refused with a number other than 0, answers r and leaves the buffer `new`, which it found as `old`
+abbrev pub Puts : ℕ → Bytes → Bytes → Writing → Bytes → Type 0
+Puts number bytes old r new =
+    (r ≡ record { refusal = writeRefusal number bytes (length old); length = writtenLength number bytes (length old) }) × (new ≡ written number bytes old)
+
+-- a call of `write`
+abbrev pub Writes : LoopNest → Bytes → Writing → Bytes → Type 0
+Writes s old r new = Puts (refusal s) (textOf s) old r new

@@ -7,10 +7,8 @@ pub use crate::writer::put_line;
 use nest::LoopNest;
 use nest::SHORT_BUFFER;
 ghost use mathlib.Core.Path.{_≡_};
-ghost use lib.ListN;
 ghost use Rattle.nest.specs.Nest.{emptyNest};
-ghost use Rattle.nest.specs.Refusals.{refusal};
-ghost use Rattle.nest_text.specs.Text.{textOf, readRefusal, readNest, writeRefusal, writtenLength, written};
+ghost use Rattle.nest_text.specs.Text.{Reads, Writes};
 
 // smudged sheet: a line is missing, extra or not in columns
 pub const MALFORMED_TEXT: u8 = 1;
@@ -42,7 +40,7 @@ fn refused(refusal: u8) -> Reading
 
 // A loop nest from its text: the number of the first refusal with a nest of zeros, or 0 with the nest, unused places 0.
 pub fn read(text: &[u8]) -> Reading
-    ensures { λ r. ⌜ r ≡ record { refusal = readRefusal (now (text .entry)); nest = readNest (now (text .entry)) } ⌝ }
+    ensures { λ r. ⌜ Reads (now (text .entry)) r ⌝ }
 {
     let first = reader::read_header(text);
     if first.refusal != 0 {
@@ -75,8 +73,7 @@ pub struct Writing {
 
 // The text of an accepted nest into a lent buffer; answers its length, or the number of the first refusal, 2 to 14, with length 0 and no byte changed.
 pub fn write(s: LoopNest, out: &mut [u8]) -> Writing
-    ensures { λ r. ⌜ r ≡ record { refusal = writeRefusal (refusal s) (textOf s) (lib.ListN.length (now (out .entry))); length = writtenLength (refusal s) (textOf s) (lib.ListN.length (now (out .entry))) } ⌝ }
-    ensures { λ r. ⌜ now (out .exit) ≡ written (refusal s) (textOf s) (now (out .entry)) ⌝ }
+    ensures { λ r. ⌜ Writes s (now (out .entry)) r (now (out .exit)) ⌝ }
 {
     let refusal = nest::check(s);
     if refusal != 0 {

@@ -1,4 +1,5 @@
 -- A nest, where a row lies, a move and what it did as numbers in a row, for callers in other languages. Assumes nothing.
+use mathlib.Core.Path.{_≡_}
 use mathlib.Core.Bool.{true, false}
 use mathlib.Core.List.{List, [], _∷_, _++_}
 use Prim.Native.Nat.{ℕ, _+_, _*_}
@@ -7,7 +8,14 @@ use lib.IntN.{ℤ, pos}
 use lib.ListN.{getD}
 use Rattle.nest.specs.declared.LoopNest.{LoopNest}
 use Rattle.nest.specs.Nest.{part, maxDepth, maxDependences}
+use Rattle.nest_text.specs.Fields.{Bytes}
+use Rattle.nest_text.specs.declared.Reading.{Reading}
+use Rattle.nest_text.specs.Text.{Reads}
 use Rattle.rows.specs.declared.Span.{Span}
+use Rattle.planner.specs.declared.Planning.{Planning}
+use Rattle.execution.specs.Rules as rules
+use Rattle.execution.specs.Run.{State}
+use Rattle.execution.specs.Entry.{moveOf, numberOf, Makes}
 use Rattle.execution.specs.declared.Move.{Move}
 use Rattle.execution.specs.declared.Move.the-variants.{Compute, Deliver}
 use Rattle.execution.specs.declared.Answer.{Answer}
@@ -47,10 +55,6 @@ numbersOf s =
     ++ part (s .lower) 0 maxDepth ++ part (s .upper) 0 maxDepth ++ part (s .time) 0 maxDepth
     ++ part (s .dependences) 0 (maxDepth * maxDependences) ++ (s .boundary ∷ part (s .weights) 0 maxDependences)
 
--- where a row lies: its start, then its length
-abbrev pub spanIn : Span → List ℕ
-spanIn at = at .start ∷ at .length ∷ []
-
 -- the move that is asked for: kind 0 is a compute on a processor, any other a delivery for a rank along a dependence
 unfoldable pub moveIn : ℕ → ℕ → ℕ → Move
 moveIn kind a b = elim (eqb kind 0) [ true ↦ Compute a | false ↦ Deliver (record { rank = a; dependence = b }) ]
@@ -60,3 +64,46 @@ unfoldable pub madeIn : Answer → List ℕ
 madeIn (Computed c) = c .rank ∷ c .value ∷ []
 madeIn (Delivered d) = d .rank ∷ d .dependence ∷ []
 madeIn (Refused number) = 0 ∷ 0 ∷ []
+
+-- ---- answers from numbers
+
+-- where a row lies: the number answered, and its start and length
+abbrev pub spanFrom : ℕ → List ℕ → Span
+spanFrom number span = record { refusal = number; start = getD span 0 0; length = getD span 1 0 }
+
+-- what `plan` answers: the number, and the counts of iterations, steps, blocks, processors that hold an iteration, and messages
+abbrev pub planningFrom : ℕ → List ℕ → Planning
+planningFrom number counts = record {
+  refusal = number;
+  iterations = getD counts 0 0;
+  steps = getD counts 1 0;
+  blocks = getD counts 2 0;
+  processors = getD counts 3 0;
+  messages = getD counts 4 0;
+}
+
+-- ---- what calls on numbers promise where they store an answer that is no row of numbers itself
+
+-- `read`: the nest is stored as its numbers
+abbrev pub ReadsInto : Bytes → ℕ → List ℤ → Type 0
+ReadsInto text number numbers = (r : Reading) × Reads text r × (number ≡ r .refusal) × (numbers ≡ numbersOf (r .nest))
+
+-- `make_move`: what was done is stored as two numbers
+abbrev pub MakesInto : LoopNest → rules.Layout → State ℕ → Move → ℕ → List ℕ → State ℕ → Type 0
+MakesInto s L st what number made st′ = (r : Answer) × Makes s L st (moveOf what) r st′ × (number ≡ numberOf r) × (made ≡ madeIn r)
+
+-- a move as it is asked for on numbers
+pub record Asked : Type 0 where
+  pub kind : ℕ
+  pub first : ℕ
+  pub second : ℕ
+
+-- the move
+abbrev pub askedMove : Asked → Move
+askedMove a = moveIn (a .kind) (a .first) (a .second)
+
+-- a list of calls of `rowlock_move`, each with the same nest and tables and with the state as the call before left it: what was asked for, the numbers answered, and what was done
+pub data NumberCalls (s : LoopNest) (L : rules.Layout) : State ℕ → List Asked → List ℕ → List (List ℕ) → State ℕ → Type 0 where
+  no-call : {st : State ℕ} → NumberCalls s L st [] [] [] st
+  next-call : {st st′ last : State ℕ} {a : Asked} {more : List Asked} {n : ℕ} {ns : List ℕ} {made : List ℕ} {mades : List (List ℕ)}
+      → MakesInto s L st (askedMove a) n made st′ → NumberCalls s L st′ more ns mades last → NumberCalls s L st (a ∷ more) (n ∷ ns) (made ∷ mades) last

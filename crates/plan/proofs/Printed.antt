@@ -20,9 +20,8 @@ use Rattle.nest_text.specs.Fields.{Bytes}
 use Rattle.nest_text.specs.Stored.{Stored}
 use Rattle.nest_text.specs.Text.{line, readRefusal, readNest, writeRefusal, writtenLength, written}
 use Rattle.nest_text.proofs.RoundTrip.{written-read}
-use Rattle.nest_text.proofs.WriteAnswers.{Written}
 use Rattle.nest_text.proofs.WriteLaws.{stored-as, stored-length}
-use Rattle.planner.specs.Listing.{planText, listing}
+use Rattle.planner.specs.Listing.{planText, listing, Lists}
 use Rattle.planner.proofs.Sizes.{plan-length}
 
 -- ---- what is printed for an accepted text, and for a refused one
@@ -45,7 +44,7 @@ within : (bs : Bytes) (n : ℕ) → n ≤ length bs → Counts n bs
 within bs n h = (h, sym (length-take-le n bs h))
 
 -- ---- the call of `list`
-module _ (text old : Bytes) (room : 127007 ≤ length old) (r : Writing) (new : Bytes) (w : Written (readRefusal text) (planText (readNest text)) old r new) where
+module _ (text old : Bytes) (room : 127007 ≤ length old) (r : Writing) (new : Bytes) (w : Lists text old r new) where
   abbrev bytes : Bytes
   bytes = planText (readNest text)
 

@@ -22,11 +22,11 @@ use Rattle.mapping.specs.Mapping.{processorsOf}
 use Rattle.mapping.proofs.Theorems.{processors-length}
 use Rattle.sequential.specs.Sequential.{valuesOf}
 use Rattle.planner.specs.declared.Planning.{Planning}
-use Rattle.planner.specs.Plan.{noRoom, planRefusal, planAnswer, countsOf, countsIn}
+use Rattle.planner.specs.Plan.{noRoom, planRefusal, planAnswer, countsOf, countsIn, tablesIn, Plans}
 use Rattle.planner.specs.Rows.{rowOf}
 use Rattle.planner.specs.Listing.{planLines, planText}
 use Rattle.planner.proofs.LineLaws.{lines-behind, nth-small, counts-length}
-use Rattle.planner.proofs.PlanLaws.{Planned, number, none-short, values-length, accepted-number}
+use Rattle.planner.proofs.PlanLaws.{number, none-short, values-length, accepted-number}
 use Rattle.planner.proofs.Sizes.{counts-small}
 
 -- a table that starts with n entries has them at its first places
@@ -52,7 +52,7 @@ pub record Tabled (s : LoopNest) (n : ℕ) (r : Planning) (a b c d : List ℕ) :
   pub stored : {old mid new : Bytes} {end last : ℕ} → Stored old 0 (line (map pos (countsIn r))) mid end → Stored mid end (flatMap line (tab (rowOf a b c d) n)) new last → new ≡ sets old 0 (planText s)
 
 module _ (s : LoopNest) (ok : refusal s ≡ 0) (n : ℕ) (count : n ≡ length (pointsOf s)) (a b c d : List ℕ) (la : length a ≡ 4096) (lb : length b ≡ 4096) (lc : length c ≡ 4096) (ld : length d ≡ 4096)
-    (r : Planning) (a′ b′ c′ d′ : List ℕ) (P : Planned s a b c d r a′ b′ c′ d′) where
+    (r : Planning) (a′ b′ c′ d′ : List ℕ) (P : Plans s (tablesIn a b c d) r (tablesIn a′ b′ c′ d′)) where
   -- 4096 entries are enough for every accepted nest
   none : number s a b c d ≡ 0
   unfolding planRefusal

@@ -9,7 +9,7 @@ use lib.ListN.{length, drop}
 use Rattle.integers.specs.Lists.{below-or-not}
 use Rattle.nest.specs.declared.LoopNest.{LoopNest}
 use Rattle.nest.specs.Points.{pointsOf}
-use Rattle.nest.specs.Refusals.{refusal, orElse, shortBuffer, tableAfter}
+use Rattle.nest.specs.Refusals.{refusal, orElse, shortBuffer}
 use Rattle.nest.proofs.Entries.{orElse-first, orElse-second, orElse-zero, long-enough, too-short, same-table, made-table}
 use Rattle.partition.specs.Partition.{stepsOf, blocksOf}
 use Rattle.partition.proofs.Theorems.{steps-length, blocks-length}
@@ -18,7 +18,7 @@ use Rattle.mapping.proofs.Theorems.{processors-length}
 use Rattle.sequential.specs.Sequential.{sequential, ruleOf, valuesOf}
 use Rattle.sequential.proofs.LoopLaws.{loop-length}
 use Rattle.planner.specs.declared.Planning.{Planning}
-use Rattle.planner.specs.Plan.{noRoom, planRefusal, refusedWith, planAnswer}
+use Rattle.planner.specs.Plan.{noRoom, planRefusal, refusedWith, planAnswer, Tables, tablesIn, tablesRefusal, Plans}
 
 -- ---- room for n entries
 
@@ -71,19 +71,16 @@ unfolding planAnswer
 accepted-number s = refl
 
 module _ (s : LoopNest) (a b c d : List ℕ) where
+  -- the tables that are lent
+  abbrev pub old : Tables
+  old = tablesIn a b c d
+
   -- the number that the call answers
   abbrev pub number : ℕ
-  number = planRefusal s (length a) (length b) (length c) (length d)
-
-  -- the answer, and the four tables after the call
-  abbrev pub Planned : Planning → List ℕ → List ℕ → List ℕ → List ℕ → Type 0
-  Planned r a′ b′ c′ d′ =
-      (r ≡ planAnswer s number)
-      × ((a′ ≡ tableAfter (r .refusal) (stepsOf s) a)
-      × ((b′ ≡ tableAfter (r .refusal) (blocksOf s) b) × ((c′ ≡ tableAfter (r .refusal) (processorsOf s) c) × (d′ ≡ tableAfter (r .refusal) (valuesOf s) d))))
+  number = tablesRefusal s old
 
   -- refused with this number
-  refused-call : (r : Planning) (k : ℕ) → r ≡ refusedWith k → number ≡ k → (k ≡ 0 → ⊥) → Planned r a b c d
+  refused-call : (r : Planning) (k : ℕ) → r ≡ refusedWith k → number ≡ k → (k ≡ 0 → ⊥) → Plans s old r old
   refused-call r k q e h = (
     q ∙ sym (refused-answer s k h) ∙ ap (planAnswer s) (sym e),
     (
@@ -96,7 +93,7 @@ module _ (s : LoopNest) (a b c d : List ℕ) where
       g z = h (sym (ap (λ (x : Planning). x .refusal) q) ∙ z)
 
   -- the nest is refused
-  pub refused-nest : (r : Planning) (k : ℕ) → r ≡ refusedWith k → k ≡ refusal s → (k ≡ 0 → ⊥) → Planned r a b c d
+  pub refused-nest : (r : Planning) (k : ℕ) → r ≡ refusedWith k → k ≡ refusal s → (k ≡ 0 → ⊥) → Plans s old r old
   refused-nest r k q e h =
       refused-call r k q (unfold planRefusal in orElse-first (refusal s) (noRoom (length (pointsOf s)) (length a) (length b) (length c) (length d)) (λ z. h (e ∙ z)) ∙ sym e) h
 
@@ -109,12 +106,12 @@ module _ (s : LoopNest) (a b c d : List ℕ) where
         ∙ ap (λ m. noRoom m (length a) (length b) (length c) (length d)) (sym count)
 
     -- a table is too short
-    pub short-table : (r : Planning) (k : ℕ) → r ≡ refusedWith k → k ≡ noRoom n (length a) (length b) (length c) (length d) → (k ≡ 0 → ⊥) → Planned r a b c d
+    pub short-table : (r : Planning) (k : ℕ) → r ≡ refusedWith k → k ≡ noRoom n (length a) (length b) (length c) (length d) → (k ≡ 0 → ⊥) → Plans s old r old
     short-table r k q e h = refused-call r k q (behind ∙ sym e) h
 
     -- the plan is made
     pub made-plan : (r : Planning) (a′ b′ c′ d′ : List ℕ) → noRoom n (length a) (length b) (length c) (length d) ≡ 0 → r ≡ planAnswer s 0 → a′ ≡ stepsOf s ++ drop n a
-        → b′ ≡ blocksOf s ++ drop n b → c′ ≡ processorsOf s ++ drop n c → d′ ≡ valuesOf s ++ drop n d → Planned r a′ b′ c′ d′
+        → b′ ≡ blocksOf s ++ drop n b → c′ ≡ processorsOf s ++ drop n c → d′ ≡ valuesOf s ++ drop n d → Plans s old r (tablesIn a′ b′ c′ d′)
     made-plan r a′ b′ c′ d′ e q ea eb ec ed = (
       q ∙ ap (planAnswer s) (sym (behind ∙ e)),
       (

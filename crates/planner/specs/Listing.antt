@@ -12,7 +12,8 @@ use Rattle.integers.specs.Lists.{tab}
 use Rattle.nest.specs.declared.LoopNest.{LoopNest}
 use Rattle.nest.specs.Points.{pointsOf}
 use Rattle.nest_text.specs.Fields.{Bytes}
-use Rattle.nest_text.specs.Text.{line, readRefusal, readNest}
+use Rattle.nest_text.specs.declared.Writing.{Writing}
+use Rattle.nest_text.specs.Text.{line, readRefusal, readNest, Puts}
 use Rattle.partition.specs.Partition.{stepsOf, blocksOf}
 use Rattle.mapping.specs.Mapping.{processorsOf}
 use Rattle.sequential.specs.Sequential.{valuesOf}
@@ -35,3 +36,7 @@ listing text = elim (eqb (readRefusal text) 0) [ true ↦ planText (readNest tex
 -- the conditions of `list`'s numbers: those of the text (nest_text Form.ReadSays), then 14 (proofs/Answers.antt: the first that is met is answered)
 abbrev pub ListMet : Bytes → ℕ → ℕ → Type 0
 ListMet text room k = ((1 ≤ k) × (readRefusal text ≡ k)) ⊎ ((k ≡ 14) × (room < length (planText (readNest text))))
+
+-- what a call of `list` promises that answers r and leaves the buffer `new`, which it found as `old`
+abbrev pub Lists : Bytes → Bytes → Writing → Bytes → Type 0
+Lists text old r new = Puts (readRefusal text) (planText (readNest text)) old r new

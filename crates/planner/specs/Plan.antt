@@ -9,9 +9,10 @@ use lib.Dec.{eqb}
 use lib.ListN.{length}
 use Rattle.nest.specs.declared.LoopNest.{LoopNest}
 use Rattle.nest.specs.Points.{pointsOf}
-use Rattle.nest.specs.Refusals.{refusal, orElse, shortBuffer, Met}
-use Rattle.partition.specs.Partition.{stepCount, blockCount}
-use Rattle.mapping.specs.Mapping.{processorCount, messageCount}
+use Rattle.nest.specs.Refusals.{refusal, orElse, shortBuffer, tableAfter, Met}
+use Rattle.partition.specs.Partition.{stepsOf, stepCount, blocksOf, blockCount}
+use Rattle.mapping.specs.Mapping.{processorsOf, processorCount, messageCount}
+use Rattle.sequential.specs.Sequential.{valuesOf}
 use Rattle.planner.specs.declared.Planning.{Planning}
 
 -- iterations, steps, blocks, processors that hold an iteration, messages
@@ -49,3 +50,28 @@ planAnswer s k =
       | true ↦ record { refusal = 0; iterations = length (pointsOf s); steps = stepCount s; blocks = blockCount s; processors = processorCount s; messages = messageCount s }
       | false ↦ refusedWith k
     ]
+
+-- ---- what a call of `plan` promises
+
+-- the four tables that it is lent, or leaves
+pub record Tables : Type 0 where
+  pub steps : List ℕ
+  pub blocks : List ℕ
+  pub processors : List ℕ
+  pub values : List ℕ
+
+-- by what they hold
+abbrev pub tablesIn : List ℕ → List ℕ → List ℕ → List ℕ → Tables
+tablesIn steps blocks processors values = record { steps = steps; blocks = blocks; processors = processors; values = values }
+
+-- the number of the first refusal of a call that is lent these tables
+abbrev pub tablesRefusal : LoopNest → Tables → ℕ
+tablesRefusal s t = planRefusal s (length (t .steps)) (length (t .blocks)) (length (t .processors)) (length (t .values))
+
+-- the call answers r and leaves the tables `new`, which it found as `old`
+abbrev pub Plans : LoopNest → Tables → Planning → Tables → Type 0
+Plans s old r new =
+    (r ≡ planAnswer s (tablesRefusal s old))
+    × ((new .steps ≡ tableAfter (r .refusal) (stepsOf s) (old .steps))
+    × ((new .blocks ≡ tableAfter (r .refusal) (blocksOf s) (old .blocks))
+    × ((new .processors ≡ tableAfter (r .refusal) (processorsOf s) (old .processors)) × (new .values ≡ tableAfter (r .refusal) (valuesOf s) (old .values)))))

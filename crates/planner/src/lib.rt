@@ -10,13 +10,12 @@ ghost use Prim.Native.Nat.{_≤_, _+_, _*_};
 ghost use lib.ListN.{length, drop};
 ghost use lib.Seq.{sets};
 ghost use Rattle.nest.specs.Points.{pointsOf};
-ghost use Rattle.nest.specs.Refusals.{refusal, tableAfter};
+ghost use Rattle.nest.specs.Refusals.{refusal};
 ghost use Rattle.partition.specs.Partition.{stepsOf, blocksOf, blockCount};
 ghost use Rattle.mapping.specs.Mapping.{processorsOf};
 ghost use Rattle.sequential.specs.Sequential.{valuesOf};
-ghost use Rattle.nest_text.specs.Text.{readRefusal, readNest, writeRefusal, writtenLength, written};
-ghost use Rattle.planner.specs.Listing.{planText};
-ghost use Rattle.planner.specs.Plan.{noRoom, planRefusal, refusedWith, planAnswer};
+ghost use Rattle.planner.specs.Listing.{planText, Lists};
+ghost use Rattle.planner.specs.Plan.{noRoom, refusedWith, planAnswer, tablesIn, Plans};
 
 // What `plan` answers: the number of the first refusal with every count 0, or 0 with the counts.
 pub struct Planning {
@@ -112,11 +111,7 @@ pub fn plan(
     processors: &mut [u8],
     values: &mut [u16],
 ) -> Planning
-    ensures { λ r. ⌜ r ≡ planAnswer s (planRefusal s (length (now (steps .entry))) (length (now (blocks .entry))) (length (now (processors .entry))) (length (now (values .entry)))) ⌝ }
-    ensures { λ r. ⌜ now (steps .exit) ≡ tableAfter (r .refusal) (stepsOf s) (now (steps .entry)) ⌝ }
-    ensures { λ r. ⌜ now (blocks .exit) ≡ tableAfter (r .refusal) (blocksOf s) (now (blocks .entry)) ⌝ }
-    ensures { λ r. ⌜ now (processors .exit) ≡ tableAfter (r .refusal) (processorsOf s) (now (processors .entry)) ⌝ }
-    ensures { λ r. ⌜ now (values .exit) ≡ tableAfter (r .refusal) (valuesOf s) (now (values .entry)) ⌝ }
+    ensures { λ r. ⌜ Plans s (tablesIn (now (steps .entry)) (now (blocks .entry)) (now (processors .entry)) (now (values .entry))) r (tablesIn (now (steps .exit)) (now (blocks .exit)) (now (processors .exit)) (now (values .exit))) ⌝ }
 {
     let known = nest::inspect(s);
     let refusal = known.refusal;
@@ -149,8 +144,7 @@ fn put_plan(s: LoopNest, n: usize, out: &mut [u8])
 // The plan of a loop nest as text, from the nest's text into a lent buffer; answers its length, or the number of the first refusal, 1 to 14, with length 0 and no
 // byte changed.
 pub fn list(text: &[u8], out: &mut [u8]) -> Writing
-    ensures { λ r. ⌜ r ≡ record { refusal = writeRefusal (readRefusal (now (text .entry))) (planText (readNest (now (text .entry)))) (length (now (out .entry))); length = writtenLength (readRefusal (now (text .entry))) (planText (readNest (now (text .entry)))) (length (now (out .entry))) } ⌝ }
-    ensures { λ r. ⌜ now (out .exit) ≡ written (readRefusal (now (text .entry))) (planText (readNest (now (text .entry)))) (now (out .entry)) ⌝ }
+    ensures { λ r. ⌜ Lists (now (text .entry)) (now (out .entry)) r (now (out .exit)) ⌝ }
 {
     let reading = nest_text::read(text);
     if reading.refusal != 0 {

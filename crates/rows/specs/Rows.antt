@@ -50,3 +50,13 @@ spanOf s entries i =
 -- the row itself, a part of the table; empty where the call is refused
 unfoldable pub rowOf : LoopNest → List ℕ → ℤ → List ℕ
 rowOf s table i = take (spanOf s (length table) i .length) (drop (spanOf s (length table) i .start) table)
+
+-- ---- what calls promise
+
+-- a call of `locate` that answers r
+abbrev pub Locates : LoopNest → ℕ → ℤ → Span → Type 0
+Locates s entries i r = r ≡ spanOf s entries i
+
+-- a call of `row` that answers a part of the table and stores a number
+abbrev pub Cuts : LoopNest → List ℕ → ℤ → List ℕ → ℕ → Type 0
+Cuts s table i part number = (part ≡ rowOf s table i) × (number ≡ rowRefusal s (length table) i)

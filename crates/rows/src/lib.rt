@@ -2,8 +2,7 @@
 use nest::LoopNest;
 use nest::SHORT_BUFFER;
 ghost use mathlib.Core.Path.{_≡_};
-ghost use lib.ListN.{length};
-ghost use Rattle.rows.specs.Rows.{rowRefusal, spanOf, rowOf};
+ghost use Rattle.rows.specs.Rows.{Locates, Cuts};
 
 // no such row: index outside the outermost limits
 pub const NO_SUCH_ROW: u8 = 19;
@@ -27,7 +26,7 @@ fn refused(refusal: u8) -> Span
 
 // Where the row of an outermost index lies in a table of so many entries.
 pub fn locate(s: LoopNest, entries: usize, index: i64) -> Span
-    ensures { λ r. ⌜ r ≡ spanOf s entries index ⌝ }
+    ensures { λ r. ⌜ Locates s entries index r ⌝ }
 {
     let known = nest::inspect(s);
     let refusal = known.refusal;
@@ -56,8 +55,7 @@ pub fn locate(s: LoopNest, entries: usize, index: i64) -> Span
 
 // The row of an outermost index, as a part of the lent table: empty where the call is refused. The number of the refusal, or 0, is stored in `refusal`.
 pub fn row<'a>(s: LoopNest, table: &'a [u16], index: i64, refusal: &mut u8) -> &'a [u16]
-    ensures { λ r. ⌜ now r ≡ rowOf s (now (table .entry)) index ⌝ }
-    ensures { λ r. ⌜ now (refusal .exit) ≡ rowRefusal s (length (now (table .entry))) index ⌝ }
+    ensures { λ r. ⌜ Cuts s (now (table .entry)) index (now r) (now (refusal .exit)) ⌝ }
 {
     let at = locate(s, table.len(), index);
     *refusal = at.refusal;

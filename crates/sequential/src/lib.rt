@@ -10,7 +10,7 @@ ghost use lib.ListN.{length, getD, take, drop};
 ghost use Rattle.nest.specs.Nest.{toℕ, part, padded, depthOf, countOf, maxDepth, maxBoundary, maxWeight};
 ghost use Rattle.nest.specs.Points.{pointsOf, rank, isPoint, source};
 ghost use Rattle.nest.specs.Refusals.{refusal, dependence};
-ghost use Rattle.sequential.specs.Sequential.{valueOf, loop, ruleOf, fillRefusal, filled};
+ghost use Rattle.sequential.specs.Sequential.{valueOf, loop, ruleOf, Fills};
 
 // Values are below it.
 const MODULUS: usize = 65536;
@@ -95,8 +95,7 @@ fn fill_values(s: LoopNest, n: usize, values: &mut [u16])
 // The values of the sequential loop into a lent table, which has an entry for each iteration; answers 0, or the number of the first refusal, 2 to 14,
 // with no entry changed.
 pub fn fill(s: LoopNest, values: &mut [u16]) -> u8
-    ensures { λ r. ⌜ r ≡ fillRefusal s (length (now (values .entry))) ⌝ }
-    ensures { λ r. ⌜ now (values .exit) ≡ filled s (now (values .entry)) ⌝ }
+    ensures { λ r. ⌜ Fills s (now (values .entry)) r (now (values .exit)) ⌝ }
 {
     let known = nest::inspect(s);
     let refusal = known.refusal;

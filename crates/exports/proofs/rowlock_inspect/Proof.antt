@@ -1,8 +1,8 @@
 -- `rowlock_inspect` meets its contract: it is `inspect` of the nest that the numbers are, with the number of iterations stored. Assumes nothing.
 use borrow.Author.Needs.{needs}
-use mathlib.Core.Path.{ap, _∙_}
-use Rattle.nest.specs.declared.Inspection.{Inspection}
-use Rattle.nest.specs.Refusals.{refusal, iterations}
+use mathlib.Core.Path.{subst}
+use Rattle.nest.specs.declared.LoopNest.{LoopNest}
+use Rattle.nest.specs.Refusals.{Inspects}
 use Rattle.exports.proofs.rowlock_inspect.Statement.{statement}
 use Rattle.exports.proofs.rowlock_inspect.Tie as tie
 
@@ -13,10 +13,7 @@ inspect-requires : tie.Need-inspect-requires
 inspect-requires c κs = search needs
 
 returns : tie.Need-returns
-returns c =
-    let e = c .inspect .ensures in
-    let n = c .before .nest-in .ensures in
-    (ap (λ (z : Inspection). z .refusal) e ∙ ap refusal n, ap (λ (z : Inspection). z .iterations) e ∙ ap iterations n)
+returns c = subst (λ (s : LoopNest). Inspects s (c .inspect .result)) (c .before .nest-in .ensures) (c .inspect .ensures)
 
 pub rowlock-inspect-spec : {M : Type 1} → statement M
 rowlock-inspect-spec = tie.close (tie.spec nest-in-requires inspect-requires returns)

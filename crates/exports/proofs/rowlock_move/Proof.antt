@@ -40,7 +40,7 @@ returns c =
     let l = f .last in
     move-from (n .nest-in .result) (nestIn (a .numbers .now)) (w .move-in .result) (moveIn (a .kind) (a .first) (a .second)) (layoutIn (a .steps .now) (a .processors .now))
     (stateIn (a .values .now) (a .done .now) (a .delivered .now)) (stateIn (l .1 .1 .1 .1 .0) (l .1 .1 .1 .1 .1 .0) (l .1 .1 .1 .1 .1 .1 .0)) (f .result) (c .number-of .result) (c .before .made-in .result)
-    (n .nest-in .ensures) (w .move-in .ensures) (f .ensures .0) (f .ensures .1 .0) (f .ensures .1 .1) (c .number-of .ensures) (c .before .made-in .ensures)
+    (n .nest-in .ensures) (w .move-in .ensures) (f .ensures) (c .number-of .ensures) (c .before .made-in .ensures)
 
 pub rowlock-move-spec : {M : Type 1} → statement M
 rowlock-move-spec =

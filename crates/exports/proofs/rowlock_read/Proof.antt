@@ -1,8 +1,6 @@
 -- `rowlock_read` meets its contract: it is `read`, with the numbers of the nest stored. Assumes nothing.
 use borrow.Author.Needs.{needs}
-use mathlib.Core.Path.{ap, _∙_}
-use Rattle.nest_text.specs.declared.Reading.{Reading}
-use Rattle.numbers.specs.Numbers.{numbersOf}
+use mathlib.Core.Path.{refl}
 use Rattle.exports.proofs.rowlock_read.Statement.{statement}
 use Rattle.exports.proofs.rowlock_read.Tie as tie
 
@@ -13,9 +11,7 @@ numbers-of-requires : tie.Need-numbers-of-requires
 numbers-of-requires c κs = search needs
 
 returns : tie.Need-returns
-returns c =
-    let e = c .before .read .ensures in
-    (ap (λ (z : Reading). z .refusal) e, c .numbers-of .ensures ∙ ap (λ (z : Reading). numbersOf (z .nest)) e)
+returns c = (c .before .read .result, c .before .read .ensures, refl, c .numbers-of .ensures)
 
 pub rowlock-read-spec : {M : Type 1} → statement M
 rowlock-read-spec = tie.close (tie.spec read-requires numbers-of-requires returns)

@@ -1,11 +1,8 @@
 -- `rowlock_write` meets its contract: it is `write` of the nest that the numbers are, with the length stored. Assumes nothing.
 use borrow.Author.Needs.{needs}
-use mathlib.Core.Path.{ap, _∙_}
-use lib.ListN
+use mathlib.Core.Path.{subst}
 use Rattle.nest.specs.declared.LoopNest.{LoopNest}
-use Rattle.nest.specs.Refusals.{refusal}
-use Rattle.nest_text.specs.declared.Writing.{Writing}
-use Rattle.nest_text.specs.Text.{textOf, writeRefusal, writtenLength, written}
+use Rattle.nest_text.specs.Text.{Writes}
 use Rattle.exports.proofs.rowlock_write.Statement.{statement}
 use Rattle.exports.proofs.rowlock_write.Tie as tie
 
@@ -20,15 +17,9 @@ same-length c = search needs
 
 returns : tie.Need-returns
 returns c =
-    let e = c .before .before .write .ensures in
-    let n = c .before .before .before .before .nest-in .ensures in
-    let old = c .before .before .before .before .before .before .args .out .now in (
-      ap (λ (z : Writing). z .refusal) (e .0) ∙ ap (λ (s : LoopNest). writeRefusal (refusal s) (textOf s) (lib.ListN.length old)) n,
-      (
-        ap (λ (z : Writing). z .length) (e .0) ∙ ap (λ (s : LoopNest). writtenLength (refusal s) (textOf s) (lib.ListN.length old)) n,
-        e .1 ∙ ap (λ (s : LoopNest). written (refusal s) (textOf s) old) n,
-      ),
-    )
+    let f = c .before .before .write in
+    let old = c .before .before .before .before .before .before .args .out .now in
+    subst (λ (s : LoopNest). Writes s old (f .result) (f .last .1 .0)) (c .before .before .before .before .nest-in .ensures) (f .ensures)
 
 pub rowlock-write-spec : {M : Type 1} → statement M
 rowlock-write-spec = tie.close (tie.spec nest-in-requires write-requires same-length returns)
