@@ -192,9 +192,9 @@ weighted-table s st₀ b st numbers M c = c .table
 pub calls-run : {Val : Type 0} (R : Rule Val) (s : LoopNest) (L : Layout) (st : State Val) (ms : List Move) (numbers : List ℕ) (last : State Val) → Calls R s L st ms numbers last
     → (numbers ≡ answers R s L st ms) × (last ≡ run R s L st ms)
 calls-run R s L st ms numbers last no-call = (refl, refl)
-calls-run R s L st ms numbers last (call {st′ = st′} {ms = rest} {numbers = others} a e c) =
+calls-run R s L st ms numbers last (call {st′ = st′} {ms = rest} {numbers = others} m c) =
     let h = calls-run R s L st′ rest others last c in
-    (ap₂ _∷_ a (h .0 ∙ ap (λ u. answers R s L u rest) e), h .1 ∙ ap (λ u. run R s L u rest) e)
+    (ap₂ _∷_ (m .0) (h .0 ∙ ap (λ u. answers R s L u rest) (m .1)), h .1 ∙ ap (λ u. run R s L u rest) (m .1))
 
 -- ---- the messages that are ever delivered
 

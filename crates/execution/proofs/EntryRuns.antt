@@ -22,7 +22,7 @@ use Rattle.execution.proofs.Demand.{ordered, planned-same, layout-outco
 pub entry-calls : (s : LoopNest) (L : Layout) (st : State ℕ) (whats : List asked.Move) (rs : List Answer) (last : State ℕ) → EntryCalls s L st whats rs last
     → Calls (ruleOf s) s L st (map moveOf whats) (map numberOf rs) last
 entry-calls s L st whats rs last no-entry = no-call
-entry-calls s L st whats rs last (entry {st′ = st′} {whats = others} {rs = more} m c) = call (m .1 .0) (m .1 .1) (entry-calls s L st′ others more last c)
+entry-calls s L st whats rs last (entry {st′ = st′} {whats = others} {rs = more} m c) = call (m .1) (entry-calls s L st′ others more last c)
 
 -- on any causal layout
 module _ (s : LoopNest) (M L : Layout) (st₀ : State ℕ) (ok : refusal s ≡ 0) (C : Causal s M) (pl : Planned M L) (fr : Fresh s st₀) where

@@ -115,10 +115,13 @@ pub record Outcome {Val : Type 0} (R : Rule Val) (s : LoopNest) (M L : Layout) (
 
 -- ---- calls
 
--- A list of calls of the entry that makes a move, each with the same nest and tables and with the state as the call before left it: what the entry's contract says of each,
--- by the state that it found, its move, the number that it answered and the state that it left. proofs/Demand.antt shows that the numbers and the last state are those of `answers`
--- and `run`.
+-- a call that makes a move under a rule: the number answered, and the state left
+abbrev pub MoveCall : {Val : Type 0} → Rule Val → LoopNest → Layout → State Val → Move → ℕ → State Val → Type 0
+MoveCall R s L st mv a st′ = (a ≡ moveAnswer s L st mv) × (st′ ≡ moveAfter R s L st mv)
+
+-- A list of such calls, each with the same nest and tables and with the state as the call before left it. proofs/Demand.antt shows that the numbers and the last state are those of
+-- `answers` and `run`.
 pub data Calls {Val : Type 0} (R : Rule Val) (s : LoopNest) (L : Layout) : State Val → List Move → List ℕ → State Val → Type 0 where
   no-call : {st : State Val} → Calls R s L st [] [] st
-  call : {st st′ last : State Val} {mv : Move} {ms : List Move} {a : ℕ} {numbers : List ℕ} → a ≡ moveAnswer s L st mv → st′ ≡ moveAfter R s L st mv
+  call : {st st′ last : State Val} {mv : Move} {ms : List Move} {a : ℕ} {numbers : List ℕ} → MoveCall R s L st mv a st′
       → Calls R s L st′ ms numbers last → Calls R s L st (mv ∷ ms) (a ∷ numbers) last

@@ -1,0 +1,2 @@
+-- The three demands, proved. Assumes nothing.
+pub mod ThirdDemand

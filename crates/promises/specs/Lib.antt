@@ -1,0 +1,2 @@
+-- The three demands (document 00) as three statements. Assumes nothing.
+pub mod Demand3
