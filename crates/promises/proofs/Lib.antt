@@ -1,2 +1,3 @@
 -- The three demands, proved. Assumes nothing.
+pub mod SecondDemand
 pub mod ThirdDemand

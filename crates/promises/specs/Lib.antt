@@ -1,2 +1,3 @@
 -- The three demands (document 00) as three statements. Assumes nothing.
+pub mod Demand2
 pub mod Demand3

@@ -1,0 +1,171 @@
+-- Demand 2: what holds of the tables and counts that an accepted call of `plan` left, and of a nest that is read and written.
+-- Assumes nothing.
+use mathlib.Core.Path.{_≡_, refl, sym, ap, ap₂, subst, _∙_}
+use mathlib.Core.Bool.{true, false}
+use mathlib.Core.List.{List, [], _++_}
+use mathlib.Core.Logic.{_↔_}
+use Prim.Native.Nat.{ℕ, suc, _^_, _<_, _≤_}
+use native.Mathlib.Omega.{arith}
+use lib.IntN.{pos, _+ℤ_}
+use lib.ListN.{length, getD, take, drop, length-append, List·getD-append}
+use lib.Seq.{take-append-le, take-all}
+use borrow.Author.Tests.{eq-eqb}
+use Rattle.integers.proofs.ListFacts.{getD-map}
+use Rattle.nest.specs.declared.LoopNest.{LoopNest}
+use Rattle.nest.specs.Nest.{toℕ, cleared}
+use Rattle.nest.specs.Points.{pointsOf}
+use Rattle.nest.specs.Refusals.{refusal, orElse, shortBuffer, tableAfter}
+use Rattle.nest.proofs.Entries.{orElse-zero, orElse-second, long-enough, made-table}
+use Rattle.partition.specs.Partition.{stepsOf, stepCount, groupsOf, blocksOf, blockCount}
+use Rattle.partition.specs.GroupRows.{noGroup}
+use Rattle.partition.proofs.Theorems.{steps-length, step-is, step-below, last-step, blocks-length, block-below, block-used, block-order, block-iff, one-iteration-a-step, later-step}
+use Rattle.mapping.specs.Mapping.{processorsOf, processorCount, messageCount, directionsOf, processor}
+use Rattle.mapping.proofs.Theorems.{groups-length, processors-length, processors-below, messages-counted}
+use Rattle.sequential.specs.Sequential.{sequential, ruleOf, valuesOf}
+use Rattle.sequential.proofs.LoopLaws.{loop-value}
+use Rattle.planner.specs.declared.Planning.{Planning}
+use Rattle.planner.specs.Plan.{planAnswer, Tables, tablesRefusal, Plans}
+use Rattle.planner.proofs.PlanLaws.{values-length}
+use Rattle.execution.proofs.Demand.{plan-number, plan-accepted}
+use Rattle.nest_text.specs.Fields.{Bytes}
+use Rattle.nest_text.specs.declared.Reading.{Reading}
+use Rattle.nest_text.specs.declared.Writing.{Writing}
+use Rattle.nest_text.specs.Text.{textOf, readRefusal, readNest, writeRefusal, writtenLength, written, Puts, Reads, Writes}
+use Rattle.nest_text.proofs.RoundTrip.{read-written, written-read}
+use Rattle.promises.specs.Demand2.{size, leastProduct, at, Planned, SameText, Demand2}
+
+-- ---- a plan
+module _ (s : LoopNest) (old : Tables) (p : Planning) (t : Tables) (P : Plans s old p t) (z : p .refusal ≡ 0) where
+  -- the nest is accepted
+  ok : refusal s ≡ 0
+  ok = plan-accepted s old p t P z
+
+  -- and the answer has its counts
+  counts : p ≡ planAnswer s 0
+  counts =
+      let k = tablesRefusal s old in
+      P .0 ∙ ap (planAnswer s) (sym (plan-number s k) ∙ ap (λ (x : Planning). x .refusal) (sym (P .0)) ∙ z)
+
+  -- a table that is planned
+  table : (planned was now : List ℕ) → length planned ≡ size s → now ≡ tableAfter (p .refusal) planned was → now ≡ planned ++ drop (size s) was
+  table planned was now l e = e ∙ made-table (p .refusal) (size s) planned was z l
+
+  -- and its entries
+  entry : (planned was now : List ℕ) → length planned ≡ size s → now ≡ tableAfter (p .refusal) planned was → (k : ℕ) → k < size s → at now k ≡ at planned k
+  entry planned was now l e k h = ap (λ (xs : List ℕ). getD xs k 0) (table planned was now l e) ∙ List·getD-append planned (drop (size s) was) 0 k (omega arith)
+
+  step-at : (k : ℕ) → k < size s → at (t .steps) k ≡ at (stepsOf s) k
+  step-at = entry (stepsOf s) (old .steps) (t .steps) (steps-length s ok) (P .1 .0)
+
+  block-at : (k : ℕ) → k < size s → at (t .blocks) k ≡ at (blocksOf s) k
+  block-at = entry (blocksOf s) (old .blocks) (t .blocks) (blocks-length s ok) (P .1 .1 .0)
+
+  processor-at : (k : ℕ) → k < size s → at (t .processors) k ≡ at (processorsOf s) k
+  processor-at = entry (processorsOf s) (old .processors) (t .processors) (processors-length s) (P .1 .1 .1 .0)
+
+  value-at : (k : ℕ) → k < size s → at (t .values) k ≡ at (valuesOf s) k
+  value-at = entry (valuesOf s) (old .values) (t .values) (values-length s) (P .1 .1 .1 .1)
+
+  -- the counts by their definitions
+  counted : (p .iterations ≡ size s) × (p .steps ≡ stepCount s) × (p .blocks ≡ blockCount s) × (p .processors ≡ processorCount s) × (p .messages ≡ messageCount s)
+  unfolding planAnswer
+  counted = (
+    ap (λ (x : Planning). x .iterations) counts,
+    ap (λ (x : Planning). x .steps) counts,
+    ap (λ (x : Planning). x .blocks) counts,
+    ap (λ (x : Planning). x .processors) counts,
+    ap (λ (x : Planning). x .messages) counts,
+  )
+
+  -- an iteration's processor is that of its group
+  grouped : (k : ℕ) → k < size s → at (processorsOf s) k ≡ processor (directionsOf s) (getD (groupsOf s) k noGroup)
+  unfolding processorsOf
+  grouped k h = getD-map (processor (directionsOf s)) (groupsOf s) k noGroup 0 (subst (λ n. k < n) (sym (groups-length s)) h)
+
+  -- so a block is on one
+  one-processor : (j k : ℕ) → j < size s → k < size s → at (t .blocks) j ≡ at (t .blocks) k → at (t .processors) j ≡ at (t .processors) k
+  one-processor j k hj hk e =
+      let g = block-iff s ok j k hj hk .0 (sym (block-at j hj) ∙ e ∙ block-at k hk) in
+      processor-at j hj ∙ grouped j hj ∙ ap (processor (directionsOf s)) g ∙ sym (grouped k hk) ∙ sym (processor-at k hk)
+
+  planned : Planned s old p t
+  planned = record {
+    steps = table (stepsOf s) (old .steps) (t .steps) (steps-length s ok) (P .1 .0);
+    blocks = table (blocksOf s) (old .blocks) (t .blocks) (blocks-length s ok) (P .1 .1 .0);
+    processors = table (processorsOf s) (old .processors) (t .processors) (processors-length s) (P .1 .1 .1 .0);
+    values = table (valuesOf s) (old .values) (t .values) (values-length s) (P .1 .1 .1 .1);
+    iterations = counted .0;
+    step = λ k h. step-is s ok k h ∙ ap (λ n. leastProduct s +ℤ pos n) (sym (step-at k h));
+    step-below = λ k h. omega (arith, step-at k h, counted .1, step-below s ok k h);
+    step-last = let l = last-step s ok in (l .0, l .1, ap suc (step-at (l .0) (l .1)) ∙ l .2 ∙ sym (counted .1));
+    block-below = λ k h. omega (arith, block-at k h, counted .2, block-below s ok k h);
+    block-used = λ b h. let u = block-used s ok b (omega (arith, counted .2)) in (u .0, u .1, block-at (u .0) (u .1) ∙ u .2);
+    block-order = λ k h b l.
+        let u = block-order s ok k h b (omega (arith, block-at k h)) in
+        let e = u .1 in
+        (u .0, u .1, block-at (u .0) (omega arith) ∙ u .2);
+    one-group = λ j k hj hk.
+        let i = block-iff s ok j k hj hk in
+        (λ e. i .0 (sym (block-at j hj) ∙ e ∙ block-at k hk), λ e. block-at j hj ∙ i .1 e ∙ sym (block-at k hk));
+    one-a-step = λ j k hj hk b e. one-iteration-a-step s ok j k hj hk (sym (block-at j hj) ∙ b ∙ block-at k hk) (sym (step-at j hj) ∙ e ∙ step-at k hk);
+    later-step = λ i hi j k hj hk e. omega (arith, step-at j hj, step-at k hk, later-step s ok i hi j k hj hk e);
+    one-processor = one-processor;
+    processor-below = λ k h. subst (λ n. n < 2 ^ toℕ (s .cube)) (sym (processor-at k h)) (processors-below s k h);
+    processor-count = counted .3;
+    messages = counted .4 ∙ messages-counted s;
+    value = λ k h. value-at k h ∙ (unfold valuesOf in loop-value (ruleOf s) s ok k h 0);
+  }
+
+-- ---- a call that writes bytes, and is not refused
+module _ (number : ℕ) (bytes old new : Bytes) (w : Writing) (W : Puts number bytes old w new) where
+  module _ (z : writeRefusal number bytes (length old) ≡ 0) where
+    -- its answer
+    put-answer : w ≡ record { refusal = 0; length = length bytes }
+    unfolding writtenLength
+    put-answer =
+        W .0
+        ∙ ap₂ (λ (a b : ℕ). let r : Writing = record { refusal = a; length = b } in r) z (ap (λ b. elim b as (λ _. ℕ) [ true ↦ length bytes | false ↦ 0 ]) (eq-eqb (writeRefusal number bytes (length old)) 0 z))
+
+    -- and its buffer
+    put-buffer : new ≡ bytes ++ drop (length bytes) old
+    unfolding written
+    put-buffer = W .1 ∙ made-table (writeRefusal number bytes (length old)) (length bytes) bytes old z refl
+
+  -- where its number is 0 there is no other
+  put-number : w .refusal ≡ 0 → writeRefusal number bytes (length old) ≡ 0
+  put-number e = sym (ap (λ (x : Writing). x .refusal) (W .0)) ∙ e
+
+-- a buffer that has room
+put-room : (number : ℕ) (bytes old : Bytes) → number ≡ 0 → length bytes ≤ length old → writeRefusal number bytes (length old) ≡ 0
+unfolding writeRefusal
+put-room number bytes old e h = orElse-second number (shortBuffer (length bytes) (length old)) e ∙ long-enough (length bytes) (length old) h
+
+-- no refusal, so none of the nest
+put-first : (number : ℕ) (bytes old : Bytes) → writeRefusal number bytes (length old) ≡ 0 → number ≡ 0
+unfolding writeRefusal
+put-first number bytes old z = orElse-zero number (shortBuffer (length bytes) (length old)) z .0
+
+-- ---- read and written
+same-text : SameText
+same-text = record {
+  reads-written = λ s old new w r W e R.
+      let z = put-number (refusal s) (textOf s) old new w W e in
+      let ok = put-first (refusal s) (textOf s) old z in
+      let l : w .length ≡ length (textOf s) = ap (λ (x : Writing). x .length) (put-answer (refusal s) (textOf s) old new w W z) in
+      let back : take (w .length) new ≡ textOf s =
+      ap₂ (λ (n : ℕ) (bs : Bytes). take n bs) l (put-buffer (refusal s) (textOf s) old new w W z)
+      ∙ take-append-le (length (textOf s)) (textOf s) (drop (length (textOf s)) old) (omega arith) ∙ take-all (length (textOf s)) (textOf s) (omega arith) in
+      let q = read-written s ok in
+      R ∙ ap (λ (bs : Bytes). let x : Reading = record { refusal = readRefusal bs; nest = readNest bs } in x) back
+      ∙ ap₂ (λ (k : ℕ) (n : LoopNest). let x : Reading = record { refusal = k; nest = n } in x) (q .0) (q .1);
+  writes-read = λ text old new r w R e W h.
+      let k : readRefusal text ≡ 0 = sym (ap (λ (x : Reading). x .refusal) R) ∙ e in
+      let n : r .nest ≡ readNest text = ap (λ (x : Reading). x .nest) R in
+      let q = written-read text k in
+      let P : Puts (refusal (readNest text)) text old w new = subst (λ (bs : Bytes). Puts (refusal (readNest text)) bs old w new) (q .same-bytes) (subst (λ (s : LoopNest). Writes s old w new) n W) in
+      let z = put-room (refusal (readNest text)) text old (q .accepted) h in
+      (put-answer (refusal (readNest text)) text old new w P z, put-buffer (refusal (readNest text)) text old new w P z);
+}
+
+pub demand-2 : Demand2
+demand-2 = record { plan = planned; text = same-text }

@@ -1,0 +1,91 @@
+-- Demand 2 (document 00): an accepted nest's steps, blocks, processors, counts and values are those of the published projection, grouping and Gray numbering, with the free choices
+-- fixed in document 01; each iteration is in one block, no two iterations of a block are at one step, every dependence leads to a later step. A refusal comes under its stated condition
+-- and no other. A nest read and written is the same nest, as text and as numbers. It is said of what calls of the entries answer and leave.
+-- Assumes nothing.
+use mathlib.Core.Path.{_≡_}
+use mathlib.Core.List.{List, [], _++_, map}
+use mathlib.Core.Logic.{_↔_}
+use Prim.Native.Nat.{ℕ, suc, _^_, _<_, _≤_}
+use lib.IntN.{ℤ, pos, _+ℤ_}
+use lib.ListN
+use lib.ListN.{getD, take, drop}
+use Rattle.integers.specs.Extremes.{leastZ}
+use Rattle.integers.specs.Lists.{count}
+use Rattle.integers.specs.Vector.{Vector, dots}
+use Rattle.nest.specs.declared.LoopNest.{LoopNest}
+use Rattle.nest.specs.Nest.{toℕ, countOf, timeOf, cleared}
+use Rattle.nest.specs.Points.{pointsOf, source}
+use Rattle.nest.specs.Refusals.{dependence}
+use Rattle.nest_text.specs.Fields.{Bytes}
+use Rattle.nest_text.specs.declared.Reading.{Reading}
+use Rattle.nest_text.specs.declared.Writing.{Writing}
+use Rattle.nest_text.specs.Text.{Reads, Writes}
+use Rattle.partition.specs.Partition.{stepsOf, groupsOf, blocksOf}
+use Rattle.partition.specs.GroupRows.{noGroup}
+use Rattle.mapping.specs.Mapping.{processorsOf, processorCount, isMessage}
+use Rattle.mapping.proofs.Theorems.{pairs}
+use Rattle.sequential.specs.Sequential.{valueOf, ruleOf, valuesOf}
+use Rattle.planner.specs.declared.Planning.{Planning}
+use Rattle.planner.specs.Plan.{Tables, Plans}
+
+-- ---- the plan of an accepted nest
+
+-- the number of iterations, and the index point of iteration k
+abbrev pub size : LoopNest → ℕ
+size s = lib.ListN.length (pointsOf s)
+
+abbrev pub point : LoopNest → ℕ → Vector
+point s k = getD (pointsOf s) k []
+
+-- the least P·j over all iterations
+abbrev pub leastProduct : LoopNest → ℤ
+leastProduct s = leastZ (map (dots (timeOf s)) (pointsOf s))
+
+-- entry k of a table
+abbrev pub at : List ℕ → ℕ → ℕ
+at table k = getD table k 0
+
+-- A call of `plan` that was not refused found the tables `old`, answered p and left the tables t.
+pub record Planned (s : LoopNest) (old : Tables) (p : Planning) (t : Tables) : Type 0 where
+  -- the tables hold the method's steps, blocks, processors and values, and behind them what they held before
+  pub steps : t .steps ≡ stepsOf s ++ drop (size s) (old .steps)
+  pub blocks : t .blocks ≡ blocksOf s ++ drop (size s) (old .blocks)
+  pub processors : t .processors ≡ processorsOf s ++ drop (size s) (old .processors)
+  pub values : t .values ≡ valuesOf s ++ drop (size s) (old .values)
+  -- a step is P·j less the least P·j; each is below the count of steps, and one is the last
+  pub iterations : p .iterations ≡ size s
+  pub step : (k : ℕ) → k < size s → dots (timeOf s) (point s k) ≡ leastProduct s +ℤ pos (at (t .steps) k)
+  pub step-below : (k : ℕ) → k < size s → at (t .steps) k < p .steps
+  pub step-last : (k : ℕ) × (k < size s) × (suc (at (t .steps) k) ≡ p .steps)
+  -- each iteration is in exactly one block: its entry; the numbers from 0 to the count less 1 are each used, in the order of the first iterations
+  pub block-below : (k : ℕ) → k < size s → at (t .blocks) k < p .blocks
+  pub block-used : (b : ℕ) → b < p .blocks → (k : ℕ) × (k < size s) × (at (t .blocks) k ≡ b)
+  pub block-order : (k : ℕ) → k < size s → (b : ℕ) → b < at (t .blocks) k → (j : ℕ) × (j < k) × (at (t .blocks) j ≡ b)
+  -- a block is all iterations projected into one group
+  pub one-group : (j k : ℕ) → j < size s → k < size s → (at (t .blocks) j ≡ at (t .blocks) k) ↔ (getD (groupsOf s) j noGroup ≡ getD (groupsOf s) k noGroup)
+  -- no two iterations of a block are at one step
+  pub one-a-step : (j k : ℕ) → j < size s → k < size s → at (t .blocks) j ≡ at (t .blocks) k → at (t .steps) j ≡ at (t .steps) k → j ≡ k
+  -- every dependence leads to a later step
+  pub later-step : (i : ℕ) → i < countOf s → (j k : ℕ) → j < size s → k < size s → point s j ≡ source (point s k) (dependence s i) → at (t .steps) j < at (t .steps) k
+  -- a block is on one processor, and a processor is one of the machine's
+  pub one-processor : (j k : ℕ) → j < size s → k < size s → at (t .blocks) j ≡ at (t .blocks) k → at (t .processors) j ≡ at (t .processors) k
+  pub processor-below : (k : ℕ) → k < size s → at (t .processors) k < 2 ^ toℕ (s .cube)
+  pub processor-count : p .processors ≡ processorCount s
+  -- the messages are the pairs of an iteration and a dependence whose source is an iteration on another processor
+  pub messages : p .messages ≡ count (λ q. isMessage s (processorsOf s) (q .0) (q .1)) (pairs (size s) (countOf s))
+  -- each value is the weighted sum of the values of its sources
+  pub value : (k : ℕ) → k < size s → at (t .values) k ≡ valueOf (ruleOf s) s (valuesOf s) k
+
+-- ---- read and written
+pub record SameText : Type 0 where
+  -- reading what `write` left gives the nest, with 0 in the places that its text has no field for
+  pub reads-written : (s : LoopNest) (old new : Bytes) (w : Writing) (r : Reading) → Writes s old w new → w .refusal ≡ 0 → Reads (take (w .length) new) r
+      → r ≡ record { refusal = 0; nest = cleared s }
+  -- writing what `read` gave, into a buffer that has room, gives the same bytes
+  pub writes-read : (text old new : Bytes) (r : Reading) (w : Writing) → Reads text r → r .refusal ≡ 0 → Writes (r .nest) old w new → lib.ListN.length text ≤ lib.ListN.length old
+      → (w ≡ record { refusal = 0; length = lib.ListN.length text }) × (new ≡ text ++ drop (lib.ListN.length text) old)
+
+-- ---- the demand
+pub record Demand2 : Type 1 where
+  pub plan : (s : LoopNest) (old : Tables) (p : Planning) (t : Tables) → Plans s old p t → p .refusal ≡ 0 → Planned s old p t
+  pub text : SameText
