@@ -1,0 +1,2 @@
+-- The point before a point on its projection line.
+pub mod Neighbours
