@@ -11,7 +11,7 @@ use Rattle.nest.specs.declared.LoopNest.{LoopNest}
 use Rattle.nest.specs.Nest.{toℕ, countOf}
 use Rattle.nest.specs.Points.{pointsOf}
 use Rattle.nest.specs.Sources.{sourceRank}
-use Rattle.mapping.proofs.Theorems.{Message}
+use Rattle.mapping.specs.Mapping.{Message}
 use Rattle.execution.specs.Rules.{Move, compute, deliver, Effect, refuse, iteration, message, Layout, View, stepIn, processorIn}
 use Rattle.execution.specs.Machine.{Machine, machineAfter, machineView}
 

@@ -14,10 +14,10 @@ use Rattle.nest.specs.Points.{pointsOf}
 use Rattle.nest.specs.Refusals.{refusal}
 use Rattle.nest.proofs.Accepted.{depth-is}
 use Rattle.grouping.specs.Grouping.{Group, chosenCount}
-use Rattle.partition.specs.Partition.{groupsOf, stepCount, blockCount}
+use Rattle.partition.specs.Partition.{groupsOf, noGroup, stepCount, blockCount}
 use Rattle.grouping.specs.Basis.{pick, Fill}
 use Rattle.numbering.specs.Tables.{row}
-use Rattle.partition.specs.GroupRows.{noGroup, GroupRow, GroupTable}
+use Rattle.partition.specs.GroupRows.{GroupRow, GroupTable}
 use Rattle.partition.proofs.Theorems.{chosen-bound}
 use Rattle.mapping.specs.Mapping.{inOrder, processorsOf, processorCount, isMessage, total, messageCount}
 use Rattle.mapping.specs.Keys.{Laid, Keyed, valuesIn, keyAt}

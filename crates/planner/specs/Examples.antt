@@ -1,6 +1,6 @@
--- The examples P1 to P10 of document 01 ("Mixes to try") and the counts of 000's loops L1 and L2, as one table; `examples-hold` checks all of it on the
--- definitions, by computation. Where a case is silent: limits 0..3, time vector of ones, cube dimension 0, boundary value and weights 1, and the dependence is 1 in
--- the innermost loop.
+-- The examples P1 to P10 of document 01 ("Mixes to try"), the counts of 000's loops L1 and L2, and two nests worked out by hand, as one table; `examples-hold`
+-- checks all of it on the definitions, by computation. Where a case is silent: limits 0..3, time vector of ones, cube dimension 0, boundary value and weights 1,
+-- and the dependence is 1 in the innermost loop.
 -- Assumes nothing.
 use mathlib.Core.Path.{_≡_, refl}
 use mathlib.Core.Bool.{Bool, true, false, _&&_}
@@ -41,10 +41,13 @@ pub data Fact : Type 0 where
   -- the numbers of iterations of blocks 0, 1, ..
   blockSizes : List ℕ → Fact
   blocksAre : ℕ → Fact
+  -- the block of each iteration, in loop order
+  iterationBlocks : List ℕ → Fact
   -- dependences between iterations, and how many of them lead from a block to another
   dependencesAre : ℕ → ℕ → Fact
   -- the processors of blocks 0, 1, ..
   blockProcessors : List ℕ → Fact
+  messagesAre : ℕ → Fact
   groupSizeIs : ℕ → Fact
   groupingVectorIs : Vector → Fact
   -- β
@@ -74,8 +77,10 @@ says s (iterationsAre k) = eqb (length (pointsOf s)) k
 says s (stepsAre k) = eqb (stepCount s) k
 says s (blockSizes ks) = let t = blocksOf s in eqN (map (λ b. count (eqb b) t) (below (blockCount s))) ks
 says s (blocksAre k) = eqb (blockCount s) k
+says s (iterationBlocks ks) = eqN (blocksOf s) ks
 says s (dependencesAre k b) = let t = blocksOf s in eqb (pairs s (λ r j. isSome j)) k && eqb (pairs s (crosses t)) b
 says s (blockProcessors ks) = let t = blocksOf s in let p = processorsOf s in eqN (map (λ b. getD p (place (eqb b) t) 0) (below (blockCount s))) ks
+says s (messagesAre k) = eqb (messageCount s) k
 says s (groupSizeIs k) = eqb (groupSize (timeOf s) (dependencesOf s)) k
 says s (groupingVectorIs v) = eqV (getD (groupingVector (timeOf s) (dependencesOf s)) 0 []) v
 says s (chosenAre k) = eqb (chosenCount (timeOf s) (dependencesOf s)) k
@@ -109,6 +114,23 @@ two u v P d = nestWith (u ∷ v ∷ []) P (d ∷ []) 0
 
 unfoldable pub one : ℕ → LoopNest
 one u = nestWith (u ∷ []) (vector (1 ∷ [])) (vector (1 ∷ []) ∷ []) 0
+
+-- β = 0. The time vector is (1,0), so s is 1 and the projection of (x,y) is (0,y). That of the only dependence, (1,0), is zero: there is no grouping vector,
+-- r is 1, and each of the projected points (0,0), (0,1), (0,2), (0,3) is a class, a group and a block of its own. Block y holds (0,y) to (3,y), and each of the
+-- 12 sources is in its iteration's block. Widths of q, b and class: 1, 1 and 4. So both bits go to the class, whose parts 0, 1, 2, 3 have the Gray codes 0, 1, 3, 2.
+unfoldable pub ungrouped : LoopNest
+ungrouped = nestWith (3 ∷ 3 ∷ []) (vector (1 ∷ 0 ∷ [])) (vector (1 ∷ 0 ∷ []) ∷ []) 2
+
+-- Widths 3, 5 and 2. The time vector is (1,0,0), so s is 1 and the projection of (a,x,y) is (0,x,y). Those of the dependences, (0,-2,0) and (0,0,1), are whole:
+-- r is 1, the first is the grouping vector and the second the auxiliary one. Points are in one class if their x differ by an even number; seeds (0,0,0), (0,1,0).
+-- With x = 2z + w, z from 0 to 2 and w from 0 to 1, the group is class w, q = -z, b = y. No two projected points have one group, so (0,x,y) is in block 5x + y.
+-- Widths: q 3 (from -2 to 0), b 5, class 2. Bits go to q, b, class, b; then none can take one (4 > 3, 8 > 5, 4 > 2), and the fifth is left.
+-- Parts of q, (q + 2) × 2 / 3, are 0, 0, 1 for q = -2, -1, 0; parts of b, y × 4 / 5, are 0, 0, 1, 2, 3 with the codes 0, 0, 1, 3, 2; parts of the class are 0, 1.
+-- Joined: 8 × code of q + 2 × code of b + class. So x = 0 has 8 + 2 × code of b, x = 2 and x = 4 have 2 × code of b, and x = 1, 3, 5 have one more each.
+-- Sources: along (1,-2,0) of (1,x,y) with x from 0 to 3, 4 × 5; along (1,0,1) of (1,x,y) with y from 1 to 4, 6 × 4; all in other blocks. On other processors:
+-- along the first for x = 0 and x = 1 (q = 0, its source's -1), 2 × 5; along the second for y = 2, 3, 4 (0 and 1 have one code), 6 × 3.
+unfoldable pub uneven : LoopNest
+uneven = nestWith (1 ∷ 5 ∷ 4 ∷ []) (vector (1 ∷ 0 ∷ 0 ∷ [])) ((pos 1 ∷ negℤ (pos 2) ∷ pos 0 ∷ []) ∷ vector (1 ∷ 0 ∷ 1 ∷ []) ∷ []) 5
 
 -- document 01's listing in full
 unfoldable pub listed : LoopNest
@@ -160,8 +182,31 @@ table =
     -- P10
     ∷ record { nest = one 1000; facts = answer 0 ∷ [] }
     ∷ record { nest = one 1001; facts = answer 5 ∷ [] }
+    -- each projected point is a group
+    ∷ record {
+      nest = ungrouped;
+      facts =
+          answer 0 ∷ groupSizeIs 1 ∷ chosenAre 0 ∷ projectedPoints 4 ∷ classesAre 4
+          ∷ iterationBlocks (0 ∷ 1 ∷ 2 ∷ 3 ∷ 0 ∷ 1 ∷ 2 ∷ 3 ∷ 0 ∷ 1 ∷ 2 ∷ 3 ∷ 0 ∷ 1 ∷ 2 ∷ 3 ∷ [])
+          ∷ dependencesAre 12 0 ∷ blockProcessors (0 ∷ 1 ∷ 3 ∷ 2 ∷ []) ∷ messagesAre 0 ∷ [];
+    }
+    -- dealing and joining over three directions, two of whose widths are no powers of 2
+    ∷ record {
+      nest = uneven;
+      facts =
+          answer 0 ∷ iterationsAre 60 ∷ stepsAre 2 ∷ groupSizeIs 1 ∷ chosenAre 2 ∷ classesAre 2 ∷ blocksAre 30 ∷ dependencesAre 44 44 ∷ messagesAre 28
+          ∷ blockProcessors (
+          8 ∷ 8 ∷ 10 ∷ 14 ∷ 12
+          ∷ 9 ∷ 9 ∷ 11 ∷ 15 ∷ 13
+          ∷ 0 ∷ 0 ∷ 2 ∷ 6 ∷ 4
+          ∷ 1 ∷ 1 ∷ 3 ∷ 7 ∷ 5
+          ∷ 0 ∷ 0 ∷ 2 ∷ 6 ∷ 4
+          ∷ 1 ∷ 1 ∷ 3 ∷ 7 ∷ 5
+          ∷ [])
+          ∷ [];
+    }
     ∷ []
 
 pub examples-hold : all (λ c. all (says (c .nest)) (c .facts)) table ≡ true
-unfolding any all first place firstsAfter firsts count repeats tab greatest firstFrom dots plus times eqZ eqV isZeroV floorDiv toℕ part limitsOf timeOf dependencesOf weightsOf padded nestOf emptyNest extent indices points pointsOf pointCount rank isPoint source number outside crossed outOfSpan backward holds firstMet refusal orElse sourceRank blanksOf allDigits valueOf digitsOf signedOf readOf digitsTo textOf fieldOf line linesOf isLine numbersOf areLines lineNumbers widths headed nestFrom headerOf widthsOf bodyOf readRefusal readNest T.textOf bytes lines projection divides makesWhole multiplier groupSize leastZ step pivot clear remainder mayGroup groupingVector extend chosenVectors chosenCount latest coefficients left isCombination frame directions difference sameClass coordinates seeds eqG quotients classNumber group blocks blockNumber stepsOf stepCount frameOf groupsOf blocksOf blockCount inOrder greatestZ direction undealt takesBit withBit noDirection nextTurn dealBit dealBits dealt gray partOf joined processor directionsOf processorsOf processorCount crosses isMessage total messageCount sourceValue madeOf loop sequential sum weightedSum ruleOf valuesOf countsOf rowOf planLines planText listing eqN below isSome pairs says vector nestWith L1 L2 two one listed listedText listedPlan table flatMap zipWith
+unfolding any all first place firstsAfter firsts count repeats tab greatest firstFrom dots plus times eqZ eqV isZeroV floorDiv toℕ part limitsOf timeOf dependencesOf weightsOf padded nestOf emptyNest extent indices points pointsOf pointCount rank isPoint source number outside crossed outOfSpan backward holds firstMet refusal orElse sourceRank blanksOf allDigits valueOf digitsOf signedOf readOf digitsTo textOf fieldOf line linesOf isLine numbersOf areLines lineNumbers widths headed nestFrom headerOf widthsOf bodyOf readRefusal readNest T.textOf bytes lines projection divides makesWhole multiplier groupSize leastZ step pivot clear remainder mayGroup groupingVector extend chosenVectors chosenCount latest coefficients left isCombination frame directions difference sameClass coordinates seeds eqG quotients classNumber group blocks blockNumber stepsOf stepCount frameOf groupsOf blocksOf blockCount inOrder greatestZ direction undealt takesBit withBit noDirection nextTurn dealBit dealBits dealt gray partOf joined processor directionsOf processorsOf processorCount crosses isMessage total messageCount sourceValue madeOf loop sequential sum weightedSum ruleOf valuesOf countsOf rowOf planLines planText listing eqN below isSome pairs says vector nestWith L1 L2 two one ungrouped uneven listed listedText listedPlan table flatMap zipWith
 examples-hold = refl

@@ -10,7 +10,7 @@ use lib.ListN.{length, getD, set, take, drop}
 use Rattle.nest.specs.declared.LoopNest.{LoopNest}
 use Rattle.nest.specs.Nest.{countOf}
 use Rattle.nest.specs.Points.{pointsOf}
-use Rattle.mapping.proofs.Theorems.{Message}
+use Rattle.mapping.specs.Mapping.{Message}
 use Rattle.sequential.specs.Sequential.{Rule, sequential, ruleOf}
 use Rattle.planner.specs.declared.Planning.{Planning}
 use Rattle.planner.specs.Plan.{Tables, Plans}
