@@ -27,7 +27,7 @@ static int allowed(size_t kind, size_t first, size_t second) {
 static size_t compute_round(void) {
     size_t count = 0;
     for (size_t p = 0; p < (size_t)1 << nest.cube; p++)
-        count += allowed(0, p, 0);
+        count += allowed(ROWLOCK_COMPUTE, p, 0);
     return count;
 }
 
@@ -35,7 +35,7 @@ static size_t compute_round(void) {
 static size_t delivery_round(size_t iterations) {
     size_t count = 0;
     for (size_t k = 0; k < iterations * (size_t)nest.count; k++)
-        count += allowed(1, k / (size_t)nest.count, k % (size_t)nest.count);
+        count += allowed(ROWLOCK_DELIVER, k / (size_t)nest.count, k % (size_t)nest.count);
     return count;
 }
 

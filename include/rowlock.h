@@ -66,6 +66,12 @@ enum rowlock_refusal {
     ROWLOCK_NO_SUCH_ROW = 19
 };
 
+/* the kinds of a move */
+enum rowlock_kind {
+    ROWLOCK_COMPUTE = 1,
+    ROWLOCK_DELIVER = 2
+};
+
 /* Whether a nest is accepted. Refusals 2 to 13. */
 uint8_t rowlock_check(const struct rowlock_nest *nest);
 
@@ -92,9 +98,10 @@ uint8_t rowlock_plan(const struct rowlock_nest *nest, uint32_t *steps, size_t st
 /* The listing of the plan of a text's nest, from the buffer's first byte on, and its length; the bytes behind it stay. Refusals 1 to 14. */
 uint8_t rowlock_list(const uint8_t *text, size_t text_length, uint8_t *buffer, size_t buffer_length, size_t *length);
 
-/* Makes one move on the step and processor tables of a plan and on a state, all of any content. Kind 0 is a compute on processor `first`; any other kind is the
- * delivery of the message for rank `first` along dependence number `second`. made[0] and made[1] are the rank and the value of the iteration computed, or the rank
- * and the dependence number of the message delivered. A fresh state has 0 in every byte of `done` and `delivered`. Refusals 2 to 14, then 18, 17, 15 or 16. */
+/* Makes one move on the step and processor tables of a plan and on a state, all of any content. ROWLOCK_COMPUTE is a compute on processor `first`, and `second` is
+ * ignored; ROWLOCK_DELIVER is the delivery of the message for rank `first` along dependence number `second`; any other kind is refused with 18. made[0] and made[1]
+ * are the rank and the value of the iteration computed, or the rank and the dependence number of the message delivered. A fresh state has 0 in every byte of
+ * `done` and `delivered`. Refusals 2 to 14, then 18, 17, 15 or 16. */
 uint8_t rowlock_move(const struct rowlock_nest *nest, size_t kind, size_t first, size_t second, const uint32_t *steps, size_t steps_length,
                      const uint8_t *processors, size_t processors_length, uint16_t *values, size_t values_length, uint8_t *done, size_t done_length,
                      uint8_t *delivered, size_t delivered_length, size_t made[2]);

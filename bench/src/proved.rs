@@ -18,8 +18,8 @@ pub fn plan(nest: &Nest, tables: &mut Tables) -> u8 {
 /// Makes one move.
 pub fn make_move(nest: &Nest, request: Move, tables: &Tables, state: &mut State) -> Answer {
     let numbers = match request {
-        Move::Compute(processor) => [0, processor, 0],
-        Move::Deliver(rank, dependence) => [1, rank, dependence],
+        Move::Compute(processor) => [exported::COMPUTE, processor, 0],
+        Move::Deliver(rank, dependence) => [exported::DELIVER, rank, dependence],
     };
     let Tables { steps, processors, .. } = tables;
     let State { values, done, delivered } = state;

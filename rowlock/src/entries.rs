@@ -106,8 +106,8 @@ pub fn make_move(
     delivered: &mut [u8],
 ) -> Result<Made, Refusal> {
     let numbers = match request {
-        Move::Compute { processor } => [0, processor, 0],
-        Move::Deliver { rank, dependence } => [1, rank, dependence],
+        Move::Compute { processor } => [exported::COMPUTE, processor, 0],
+        Move::Deliver { rank, dependence } => [exported::DELIVER, rank, dependence],
     };
     let mut made = [0; 2];
     Refusal::of(exported::make_move(nest, numbers, steps, processors, values, done, delivered, &mut made))?;

@@ -6,6 +6,10 @@
 
 use crate::Nest;
 
+/// The kinds of a move; any other is refused with 18.
+pub const COMPUTE: usize = 1;
+pub const DELIVER: usize = 2;
+
 /// The declarations of `include/rowlock.h`.
 mod library {
     use crate::Nest;

@@ -91,7 +91,7 @@ mod tests {
     }
 
     #[test]
-    fn refusals_and_limits_are_those_of_the_header() {
+    fn refusals_limits_and_kinds_are_those_of_the_header() {
         let header = include_str!("../../include/rowlock.h");
         for (number, name, _) in refusals() {
             assert!(header.contains(&format!("    ROWLOCK_{name} = {number}")), "{name}");
@@ -105,6 +105,9 @@ mod tests {
         ];
         for (name, limit) in limits {
             assert!(header.contains(&format!("#define ROWLOCK_{name} {limit}\n")), "{name}");
+        }
+        for (name, kind) in [("COMPUTE", crate::exported::COMPUTE), ("DELIVER", crate::exported::DELIVER)] {
+            assert!(header.contains(&format!("    ROWLOCK_{name} = {kind}")), "{name}");
         }
     }
 

@@ -169,8 +169,8 @@ static void try_plan(const struct rowlock_nest *nest, uint8_t refusal, size_t sh
     CHECK(holds(d, values, made ? sizeof values : 0, rooms[3] * sizeof *d));
 }
 
-/* A first compute, on a fresh state of which one buffer (or one table of the plan) is an entry short, or none if `short_one` is 5. */
-static void try_move(const struct rowlock_nest *nest, uint8_t refusal, size_t short_one) {
+/* A first move, on a fresh state of which one buffer (or one table of the plan) is an entry short, or none if `short_one` is 5: a compute, or a kind that is no move's. */
+static void try_move(const struct rowlock_nest *nest, uint8_t refusal, size_t kind, size_t short_one) {
     static const uint8_t zeros[ITERATIONS], one[ITERATIONS] = {1};
     size_t n[6] = {ITERATIONS, ITERATIONS, ITERATIONS, ITERATIONS, ITERATIONS, 0};
     n[short_one] -= short_one < 5;
@@ -179,8 +179,10 @@ static void try_move(const struct rowlock_nest *nest, uint8_t refusal, size_t sh
     uint16_t *c = lend(n[2] * sizeof *c);
     size_t *made = lend(2 * sizeof *made);
     uint8_t answer = owed(refusal, short_one == 5);
+    if (answer == ROWLOCK_DONE && kind != ROWLOCK_COMPUTE)
+        answer = ROWLOCK_NO_SUCH_PLACE;
     int computed = answer == ROWLOCK_DONE;
-    CHECK(rowlock_move(nest, 0, 0, SIZE_MAX, a, n[0], b, n[1], c, n[2], d, n[3], e, n[4], made) == answer);
+    CHECK(rowlock_move(nest, kind, 0, SIZE_MAX, a, n[0], b, n[1], c, n[2], d, n[3], e, n[4], made) == answer);
     CHECK(made[0] == 0 && made[1] == (computed ? 5 : 0));
     CHECK(holds(a, steps, n[0] * sizeof *a, 0) && holds(b, processors, n[1], 0) && holds(e, zeros, n[4], 0));
     CHECK(holds(c, values, computed ? sizeof *c : 0, n[2] * sizeof *c));
@@ -197,8 +199,9 @@ static void try_nest(const struct damage *damage) {
     try_fill(nest, damage->refusal);
     for (size_t k = 0; k < 4 * (ITERATIONS + 3); k++)
         try_plan(nest, damage->refusal, k % 4, k / 4);
-    for (size_t k = 0; k <= 5; k++)
-        try_move(nest, damage->refusal, k);
+    static const size_t kinds[] = {ROWLOCK_COMPUTE, 0, 3, 256, SIZE_MAX};
+    for (size_t k = 0; k < 5 * 6; k++)
+        try_move(nest, damage->refusal, kinds[k / 6], k % 6);
 }
 
 /* The first so many bytes of the text: all of it is read, and less is malformed. */
@@ -232,13 +235,14 @@ struct move {
 /* A run to its end, with moves that are refused on the way. */
 static void try_run(void) {
     static const struct move moves[] = {
-        {0, 1, 0, ROWLOCK_WAITING, {0, 0}},         {1, 2, 0, ROWLOCK_OUT_OF_TURN, {0, 0}},      {0, 0, 0, ROWLOCK_DONE, {0, 5}},
-        {0, 0, 0, ROWLOCK_DONE, {1, 14}},           {7, 2, 0, ROWLOCK_DONE, {2, 0}},             {1, 2, 0, ROWLOCK_OUT_OF_TURN, {0, 0}},
-        {0, 1, 9, ROWLOCK_DONE, {2, 33}},           {0, 1, 0, ROWLOCK_IDLE_PROCESSOR, {0, 0}},   {0, 2, 0, ROWLOCK_NO_SUCH_PLACE, {0, 0}},
-        {1, 6, 0, ROWLOCK_NO_SUCH_PLACE, {0, 0}},   {1, 0, 2, ROWLOCK_NO_SUCH_PLACE, {0, 0}},    {0, SIZE_MAX, 0, ROWLOCK_NO_SUCH_PLACE, {0, 0}},
-        {1, SIZE_MAX, 0, ROWLOCK_NO_SUCH_PLACE, {0, 0}}, {1, 0, 0, ROWLOCK_OUT_OF_TURN, {0, 0}}, {0, 0, 0, ROWLOCK_DONE, {3, 20}},
-        {0, 0, 0, ROWLOCK_DONE, {4, 86}},           {0, 0, 0, ROWLOCK_WAITING, {0, 0}},          {SIZE_MAX, 5, 1, ROWLOCK_DONE, {5, 1}},
-        {0, 0, 0, ROWLOCK_DONE, {5, 276}},          {0, 0, 0, ROWLOCK_IDLE_PROCESSOR, {0, 0}},
+        {1, 1, 0, ROWLOCK_WAITING, {0, 0}},         {2, 2, 0, ROWLOCK_OUT_OF_TURN, {0, 0}},      {0, 0, 0, ROWLOCK_NO_SUCH_PLACE, {0, 0}},
+        {1, 0, 0, ROWLOCK_DONE, {0, 5}},            {1, 0, 0, ROWLOCK_DONE, {1, 14}},            {0, 2, 0, ROWLOCK_NO_SUCH_PLACE, {0, 0}},
+        {3, 2, 0, ROWLOCK_NO_SUCH_PLACE, {0, 0}},   {SIZE_MAX, 2, 0, ROWLOCK_NO_SUCH_PLACE, {0, 0}}, {2, 2, 0, ROWLOCK_DONE, {2, 0}},
+        {2, 2, 0, ROWLOCK_OUT_OF_TURN, {0, 0}},     {1, 1, 9, ROWLOCK_DONE, {2, 33}},            {1, 1, 0, ROWLOCK_IDLE_PROCESSOR, {0, 0}},
+        {1, 2, 0, ROWLOCK_NO_SUCH_PLACE, {0, 0}},   {2, 6, 0, ROWLOCK_NO_SUCH_PLACE, {0, 0}},    {2, 0, 2, ROWLOCK_NO_SUCH_PLACE, {0, 0}},
+        {1, SIZE_MAX, 0, ROWLOCK_NO_SUCH_PLACE, {0, 0}}, {2, SIZE_MAX, 0, ROWLOCK_NO_SUCH_PLACE, {0, 0}}, {2, 0, 0, ROWLOCK_OUT_OF_TURN, {0, 0}},
+        {1, 0, 0, ROWLOCK_DONE, {3, 20}},           {1, 0, 0, ROWLOCK_DONE, {4, 86}},            {1, 0, 0, ROWLOCK_WAITING, {0, 0}},
+        {2, 5, 1, ROWLOCK_DONE, {5, 1}},            {1, 0, 0, ROWLOCK_DONE, {5, 276}},           {1, 0, 0, ROWLOCK_IDLE_PROCESSOR, {0, 0}},
     };
     static const uint8_t zeros[ITERATIONS], ones[ITERATIONS] = {1, 1, 1, 1, 1, 1}, bits[ITERATIONS] = {0, 0, 1, 0, 0, 2};
     const uint32_t *a = lend_copy(steps, sizeof steps);

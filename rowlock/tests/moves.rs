@@ -4,7 +4,8 @@
 mod common;
 
 use common::*;
-use rowlock::{Counts, Made, Move, Refusal};
+use rowlock::{exported, Counts, Made, Move, Refusal};
+use second::generate::Random;
 use trial::entry::{Answer, Entry, Lent, Numbers, Planned, Request};
 use trial::suite::{self, Sizes};
 
@@ -29,8 +30,10 @@ impl Entry for Results {
     fn make_move(&self, nest: &Numbers, request: Request, lent: Lent) -> Answer {
         let Lent { steps, processors, values, done, delivered } = lent;
         let request = match request {
-            Request { kind: 0, first, .. } => Move::Compute { processor: first },
-            Request { first, second, .. } => Move::Deliver { rank: first, dependence: second },
+            Request { kind: exported::COMPUTE, first, .. } => Move::Compute { processor: first },
+            Request { kind: exported::DELIVER, first, second } => Move::Deliver { rank: first, dependence: second },
+            // a kind that is no move's cannot be asked for here, but what is owed for it can
+            _ => Move::Compute { processor: usize::MAX },
         };
         match rowlock::make_move(&(*nest).into(), request, steps, processors, values, done, delivered) {
             Ok(Made::Computed { rank, value }) => Answer { number: 0, made: [rank, value.into()] },
@@ -69,4 +72,34 @@ fn moves_on_the_nest_of_the_document() {
     assert_eq!(make(compute(1)), Ok(Made::Computed { rank: 2, value: 33 }));
     assert_eq!(make(compute(1)), Err(Refusal::IDLE_PROCESSOR));
     assert_eq!((values, done, delivered), ([5, 14, 33, 9, 9, 9], [1, 1, 1, 0, 0, 0], [0, 0, 1, 0, 0, 0]));
+}
+
+/// Kinds that are no move's.
+const OTHER_KINDS: [usize; 5] = [0, 3, 256, (1 << 32) + 1, usize::MAX];
+
+/// Asks for each of these kinds, for a place that each nest has, on a fresh state of so many entries; each must be answered with the number, and change nothing.
+fn other_kinds_are_answered(nest: &rowlock::Nest, entries: usize, number: u8) {
+    let (steps, processors) = (vec![0; entries], vec![0; entries]);
+    for kind in OTHER_KINDS {
+        let (mut values, mut done, mut delivered, mut made) = (vec![9; entries], vec![0; entries], vec![0; entries], [77; 2]);
+        let answer = exported::make_move(nest, [kind, 0, 0], &steps, &processors, &mut values, &mut done, &mut delivered, &mut made);
+        assert_eq!((answer, made), (number, [0, 0]), "{nest:?} {kind}");
+        assert_eq!((values, done, delivered), (vec![9; entries], vec![0; entries], vec![0; entries]));
+    }
+}
+
+#[test]
+fn other_kinds_are_no_such_place() {
+    let mut random = Random::new(34);
+    for nest in accepted(12, 100) {
+        let (n, lent) = (nest.iteration_count() as usize, lent(&mut random, &nest));
+        other_kinds_are_answered(&lent, n, 18);
+        other_kinds_are_answered(&lent, n + 1, 18);
+        other_kinds_are_answered(&lent, n - 1, 14);
+    }
+    let nests = refused(13, 600);
+    for (number, nest) in &nests {
+        other_kinds_are_answered(&lent(&mut random, nest), 3, *number);
+    }
+    assert_seen(nests.iter().map(|(number, _)| *number).collect(), OF_NESTS);
 }

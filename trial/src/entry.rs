@@ -6,8 +6,12 @@ use second::machine::Move;
 /// and upper limits, time vector, dependences, boundary value, weights, in this order.
 pub type Numbers = [i64; 45];
 
-/// A move as the exported function takes it. Kind 0 is a compute on processor `first`; any other kind
-/// is a delivery for rank `first` along dependence number `second`.
+/// The kinds of a move, numbered as in document 02's log.
+pub const COMPUTE: usize = 1;
+pub const DELIVER: usize = 2;
+
+/// A move as the exported function takes it: a compute on processor `first`, or a delivery for rank
+/// `first` along dependence number `second`. Any other kind is no move's.
 #[derive(Clone, Copy, Debug, PartialEq, Eq)]
 pub struct Request {
     pub kind: usize,
@@ -17,18 +21,20 @@ pub struct Request {
 
 impl Request {
     pub fn compute(processor: usize) -> Request {
-        Request { kind: 0, first: processor, second: 0 }
+        Request { kind: COMPUTE, first: processor, second: 0 }
     }
 
     pub fn deliver(rank: usize, dependence: usize) -> Request {
-        Request { kind: 1, first: rank, second: dependence }
+        Request { kind: DELIVER, first: rank, second: dependence }
     }
 
-    /// The move in the second planner's terms.
+    /// The move in the second planner's terms. A kind that is no move's is owed the answer of a place
+    /// that is not there.
     pub fn as_move(self) -> Move {
         match self.kind {
-            0 => Move::Compute { processor: self.first },
-            _ => Move::Deliver { rank: self.first, dependence: self.second },
+            COMPUTE => Move::Compute { processor: self.first },
+            DELIVER => Move::Deliver { rank: self.first, dependence: self.second },
+            _ => Move::Compute { processor: usize::MAX },
         }
     }
 }

@@ -6,7 +6,7 @@ use second::refusal::{Number, DONE};
 use second::sequential;
 
 use crate::buffers::Contents;
-use crate::entry::{Answer, Request};
+use crate::entry::{Answer, Request, DELIVER};
 
 type WeightedSum<'a> = Box<dyn Fn(&[i64], usize, &[i64]) -> i64 + 'a>;
 
@@ -63,7 +63,7 @@ impl<'j, 'a> Expected<'j, 'a> {
     /// Rank and value of the iteration that was computed, by the done byte that changed; or rank and
     /// dependence number of the message that was delivered.
     fn made(&self, request: Request) -> [usize; 2] {
-        if request.kind != 0 {
+        if request.kind == DELIVER {
             return [request.first, request.second];
         }
         let done = self.state.done.iter().zip(&self.contents.done);

@@ -6,7 +6,7 @@ use second::plan::Plan;
 use second::refusal::DONE;
 
 use crate::buffers::{Buffers, Contents};
-use crate::entry::{Answer, Entry, Numbers, Request};
+use crate::entry::{Answer, Entry, Numbers, Request, COMPUTE};
 use crate::judge::{Expected, Judge};
 use crate::paces::Pace;
 
@@ -38,7 +38,7 @@ impl Outcome {
     fn count(&mut self, request: Request, answer: Answer) {
         self.answers[usize::from(answer.number)] += 1;
         if u32::from(answer.number) == DONE {
-            *(if request.kind == 0 { &mut self.computed } else { &mut self.delivered }) += 1;
+            *(if request.kind == COMPUTE { &mut self.computed } else { &mut self.delivered }) += 1;
         }
     }
 }

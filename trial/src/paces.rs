@@ -7,7 +7,7 @@ use second::nest::LoopNest;
 use second::plan::Plan;
 use second::refusal::{DONE, IDLE_PROCESSOR};
 
-use crate::entry::{Answer, Request};
+use crate::entry::{Answer, Request, COMPUTE};
 use crate::requests::{disguised, Places};
 
 /// What asks for moves.
@@ -216,7 +216,7 @@ fn requests(computes: &[usize], deliveries: &[Message]) -> Vec<Request> {
 /// A move twice; a delivery also to neighbouring places.
 fn twice(request: Request) -> Vec<Request> {
     let Request { first, second, .. } = request;
-    if request.kind == 0 {
+    if request.kind == COMPUTE {
         return vec![request; 2];
     }
     vec![Request::deliver(first + 1, second), request, request, Request::deliver(first, second + 1)]
@@ -241,8 +241,8 @@ impl Pace for CompleteRun<'_> {
         let number = u32::from(answer.number);
         self.allowed_in_round |= number == DONE;
         match (request.kind, number) {
-            (0, IDLE_PROCESSOR) => self.busy[request.first] = false,
-            (0, DONE) => {
+            (COMPUTE, IDLE_PROCESSOR) => self.busy[request.first] = false,
+            (COMPUTE, DONE) => {
                 let rank = answer.made[0];
                 self.computed[rank] = true;
                 if self.order == Order::EarlyMessages {

@@ -4,7 +4,7 @@ use second::generate::Random;
 use second::nest::LoopNest;
 use second::plan::Plan;
 
-use crate::entry::Request;
+use crate::entry::{Request, COMPUTE};
 
 /// The places that moves on a nest are about.
 pub struct Places {
@@ -43,7 +43,7 @@ impl Places {
 
     /// A move of any kind: mostly such as may be allowed, some with strange places.
     pub fn any(&self, random: &mut Random) -> Request {
-        let request = match random.between(0, 9) {
+        let request = match random.between(0, 10) {
             0..=3 => Request::compute(random.pick(&self.held)),
             4 => Request::compute(random.place(self.processors)),
             5 | 6 if !self.messages.is_empty() => {
@@ -51,9 +51,24 @@ impl Places {
                 Request::deliver(rank, dependence)
             }
             5..=8 => self.any_delivery(random),
-            _ => self.strange(random),
+            9 => self.strange(random),
+            _ => return self.of_no_kind(random),
         };
         disguised(random, request)
+    }
+
+    /// Numbers that are a likely compute or delivery, with a kind that is no move's.
+    fn of_no_kind(&self, random: &mut Random) -> Request {
+        let kind =
+            random.pick(&[0, 3, 4, 255, 256, 257, 258, (1 << 32) + 1, (1 << 32) + 2, usize::MAX]);
+        let request = match self.messages[..] {
+            [_, ..] if random.once_in(2) => {
+                let (rank, dependence) = random.pick(&self.messages);
+                Request::deliver(rank, dependence)
+            }
+            _ => Request::compute(random.pick(&self.held)),
+        };
+        Request { kind, ..request }
     }
 
     /// A delivery of any rank and dependence that exist.
@@ -123,10 +138,10 @@ impl Places {
     }
 }
 
-/// The same move with another kind's number, or another number in a place that is ignored.
+/// The same move, of a compute with another number in the place that is ignored.
 pub fn disguised(random: &mut Random, request: Request) -> Request {
     match request.kind {
-        0 => Request { second: random.pick(&[0, 0, 1, 8, 4096, usize::MAX]), ..request },
-        _ => Request { kind: random.pick(&[1, 1, 1, 2, 256, 1 << 32, usize::MAX]), ..request },
+        COMPUTE => Request { second: random.pick(&[0, 0, 1, 8, 4096, usize::MAX]), ..request },
+        _ => request,
     }
 }

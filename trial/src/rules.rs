@@ -3,7 +3,7 @@
 use second::nest::LoopNest;
 use second::plan::Plan;
 
-use crate::entry::{Answer, Entry, Lent, Numbers, Planned, Request};
+use crate::entry::{Answer, Entry, Lent, Numbers, Planned, Request, COMPUTE, DELIVER};
 
 /// What a wrong entry does.
 #[derive(Clone, Copy, Debug, PartialEq, Eq)]
@@ -56,7 +56,12 @@ pub enum Fault {
     UnusedPlacesRead,
     WeightsUntested,
     NestAs32Bits,
-    KindTwoComputes,
+    KindZeroComputes,
+    KindsSwapped,
+    OtherKindsDeliver,
+    KindAsByte,
+    KindAs32Bits,
+    KindBeforeShortBuffer,
     SecondNumberOfComputeRead,
     MadeKeptWhenRefused,
     MadeWithoutValue,
@@ -112,6 +117,19 @@ fn put<T>(list: &mut [T], place: usize, entry: T) {
 impl Rules {
     fn has(&self, fault: Fault) -> bool {
         self.fault == Some(fault)
+    }
+
+    /// The kind that a kind is taken for.
+    fn kind_taken(&self, kind: usize) -> usize {
+        match kind {
+            COMPUTE | DELIVER if self.has(KindsSwapped) => COMPUTE + DELIVER - kind,
+            COMPUTE | DELIVER => kind,
+            0 if self.has(KindZeroComputes) => COMPUTE,
+            _ if self.has(OtherKindsDeliver) => DELIVER,
+            _ if self.has(KindAsByte) => usize::from(kind as u8),
+            _ if self.has(KindAs32Bits) => kind as u32 as usize,
+            _ => kind,
+        }
     }
 
     /// The nest that the numbers are, as far as they are read.
@@ -351,18 +369,24 @@ impl Entry for Rules {
         if self.has(PlaceBeforeShortBuffer) && first == usize::MAX && nest.refusal().is_none() {
             return Answer::refused(18);
         }
+        if self.has(KindBeforeShortBuffer)
+            && ![COMPUTE, DELIVER].contains(&kind)
+            && nest.refusal().is_none()
+        {
+            return Answer::refused(18);
+        }
         if let Some(number) = self.refusal(&nest, &lent) {
             let made = if self.has(MadeKeptWhenRefused) { [first, second] } else { [0, 0] };
             return Answer { number, made };
         }
         let known = Known { count: nest.iteration_count() as usize, nest };
-        if self.has(SecondNumberOfComputeRead) && kind == 0 && second == usize::MAX {
+        if self.has(SecondNumberOfComputeRead) && kind == COMPUTE && second == usize::MAX {
             first = second;
         }
-        if kind == 0 || kind == 2 && self.has(KindTwoComputes) {
-            self.compute(&known, first, &mut lent)
-        } else {
-            self.deliver(&known, first, second, &mut lent)
+        match self.kind_taken(kind) {
+            COMPUTE => self.compute(&known, first, &mut lent),
+            DELIVER => self.deliver(&known, first, second, &mut lent),
+            _ => Answer::refused(18),
         }
     }
 }

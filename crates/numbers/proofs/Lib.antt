@@ -1,3 +1,4 @@
--- The laws that the functions' proofs share.
+-- The laws that the functions' proofs share, and those of the kinds of a move.
 pub mod Copying
+pub mod MoveKinds
 pub mod Parts

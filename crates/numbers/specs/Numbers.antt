@@ -2,12 +2,12 @@
 use mathlib.Core.Path.{_≡_}
 use mathlib.Core.Bool.{true, false}
 use mathlib.Core.List.{List, [], _∷_, _++_}
-use Prim.Native.Nat.{ℕ, _+_, _*_}
+use Prim.Native.Nat.{ℕ, _+_, _*_, _^_}
 use lib.Dec.{eqb}
 use lib.IntN.{ℤ, pos}
 use lib.ListN.{getD}
 use Rattle.nest.specs.declared.LoopNest.{LoopNest}
-use Rattle.nest.specs.Nest.{part, maxDepth, maxDependences}
+use Rattle.nest.specs.Nest.{part, maxDepth, maxDependences, maxCube}
 use Rattle.nest_text.specs.Fields.{Bytes}
 use Rattle.nest_text.specs.declared.Reading.{Reading}
 use Rattle.nest_text.specs.Text.{Reads}
@@ -55,9 +55,24 @@ numbersOf s =
     ++ part (s .lower) 0 maxDepth ++ part (s .upper) 0 maxDepth ++ part (s .time) 0 maxDepth
     ++ part (s .dependences) 0 (maxDepth * maxDependences) ++ (s .boundary ∷ part (s .weights) 0 maxDependences)
 
--- the move that is asked for: kind 0 is a compute on a processor, any other a delivery for a rank along a dependence
+-- the kinds of a move, numbered as in the machine's log (document 02, U12): 1 is a compute, 2 a delivery
+abbrev pub computeKind : ℕ
+computeKind = 1
+
+abbrev pub deliverKind : ℕ
+deliverKind = 2
+
+-- a processor that no machine has: the number behind the last of the largest hypercube
+abbrev pub noProcessor : ℕ
+noProcessor = 2 ^ maxCube
+
+-- the move that is asked for: a compute on a processor, or a delivery for a rank along a dependence; any other kind asks for a compute on a processor that is not there
 unfoldable pub moveIn : ℕ → ℕ → ℕ → Move
-moveIn kind a b = elim (eqb kind 0) [ true ↦ Compute a | false ↦ Deliver (record { rank = a; dependence = b }) ]
+moveIn kind a b =
+    elim (eqb kind computeKind) [
+      | true ↦ Compute a
+      | false ↦ elim (eqb kind deliverKind) [ true ↦ Deliver (record { rank = a; dependence = b }) | false ↦ Compute noProcessor ]
+    ]
 
 -- what an answer carries: the rank and the value of an iteration that was computed, the rank and the dependence number of a message that was delivered; zeros where refused
 unfoldable pub madeIn : Answer → List ℕ

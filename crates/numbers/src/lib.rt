@@ -2,6 +2,8 @@
 mod moves;
 mod nests;
 
+pub use crate::moves::COMPUTE;
+pub use crate::moves::DELIVER;
 pub use crate::moves::made_in;
 pub use crate::moves::move_in;
 pub use crate::moves::number_of;
