@@ -60,6 +60,7 @@ fn rows_of_refused_nests_are_refused_first() {
         let lent = lent(&mut random, nest);
         for (entries, index) in [(0, i64::MIN), (4096, 0), (usize::MAX, i64::MAX)] {
             compare_locating(&lent, entries, index, Err(*number));
+            assert_eq!(rowlock::row(&lent, &[0; 9], index).map_err(Refusal::number), Err(*number));
         }
     }
     assert_seen(nests.iter().map(|(number, _)| *number).collect(), OF_NESTS);

@@ -4,3 +4,4 @@ pub mod RowLaws
 pub mod SpanLaws
 pub mod Answers
 pub mod Ignored
+pub mod PartLaws

@@ -20,13 +20,13 @@ use Rattle.rows.proofs.RowLaws.{row-fits}
 
 module _ (s : LoopNest) (entries : ℕ) (i : ℤ) where
   -- a refused call
-  refused-span : (k : ℕ) → rowRefusal s entries i ≡ k → (k ≡ 0 → ⊥) → spanOf s entries i ≡ record { refusal = k; start = 0; length = 0 }
+  pub refused-span : (k : ℕ) → rowRefusal s entries i ≡ k → (k ≡ 0 → ⊥) → spanOf s entries i ≡ record { refusal = k; start = 0; length = 0 }
   unfolding spanOf
   refused-span k e h =
       rw (ne-eqb (rowRefusal s entries i) 0 (λ z. h (sym e ∙ z)), spanOf) (ap (λ n. let r : Span = record { refusal = n; start = 0; length = 0 } in r) e)
 
   -- an allowed one
-  allowed-span : rowRefusal s entries i ≡ 0 → spanOf s entries i ≡ record { refusal = 0; start = rowStart s i; length = rowLength s i }
+  pub allowed-span : rowRefusal s entries i ≡ 0 → spanOf s entries i ≡ record { refusal = 0; start = rowStart s i; length = rowLength s i }
   unfolding spanOf
   allowed-span e = rw (eq-eqb (rowRefusal s entries i) 0 e, spanOf) refl
 
