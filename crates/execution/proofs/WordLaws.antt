@@ -14,12 +14,13 @@ use Rattle.integers.specs.Lists.{split, clash}
 use Rattle.nest.specs.declared.LoopNest.{LoopNest}
 use Rattle.nest.specs.Nest.{toℕ, countOf}
 use Rattle.nest.specs.Points.{pointsOf}
+use Rattle.nest.specs.Refusals.{Answered}
 use Rattle.nest.specs.Sources.{sourceRank}
 use Rattle.mapping.specs.Mapping.{isMessage}
 use Rattle.mapping.proofs.Theorems.{message-true, true-message}
 use Rattle.execution.specs.Rules.{every, Move, compute, deliver, Effect, refuse, iteration, message, Layout, View, stepIn, processorIn, waits, there, sourceDone, taking, effect, ready}
 use Rattle.execution.specs.Machine.{Machine, machineAfter, machineView, machineNext, machineRun, machineTold}
-use Rattle.execution.specs.Words.{Takes, Present, Absent, Sent, Says, no-processor, idle-processor, waiting, computes, no-place, out-of-turn, delivers, SaysList, no-move, next-move}
+use Rattle.execution.specs.Words.{Takes, Present, Absent, Sent, Idle, SourceAbsent, OutOfTurn, Says, no-processor, idle-processor, waiting, computes, no-place, out-of-turn, delivers, ruleOrder, SaysList, no-move, next-move}
 use Rattle.execution.proofs.Base.{eq?, opt, both, and-left, and-right, every-true, every-false, every-intro, every-refute, least-none, least-some, least-empty, least-unique}
 use Rattle.execution.proofs.RuleLaws.{there-own, there-other, taking-none, taking-ready, taking-waits, delivering-ready, delivering-refused, taken, compute-there, compute-nowhere, deliver-there, deliver-nowhere, by-move}
 
@@ -51,7 +52,7 @@ module _ (s : LoopNest) (v : View) where
       }
 
   -- none is taken
-  all-done : (p : ℕ) → taken s v p ≡ none → (k : ℕ) → k < length (pointsOf s) → processorIn v k ≡ p → v .done k ≡ true
+  all-done : (p : ℕ) → taken s v p ≡ none → Idle s v p
   all-done p e k l q = split (v .done k) (λ t. t) (λ t. clash (is-waiting p k q t) (least-none (waits v p) (stepIn v) (length (pointsOf s)) e k l))
 
   -- a source is there
@@ -118,7 +119,7 @@ module _ (s : LoopNest) (v : View) where
   })
 
   -- or that none is
-  none-taken : (p : ℕ) → ((k : ℕ) → k < length (pointsOf s) → processorIn v k ≡ p → v .done k ≡ true) → taken s v p ≡ none
+  none-taken : (p : ℕ) → Idle s v p → taken s v p ≡ none
   none-taken p h = least-empty (waits v p) (stepIn v) (length (pointsOf s))
       (λ k l. split (waits v p k) (λ t. clash (h k l (waiting-on p k t)) (waiting-not-done p k t)) (λ t. t))
 
@@ -134,10 +135,10 @@ module _ (s : LoopNest) (v : View) where
   there-absent p k i j q (inr h) = ap (there v p k i) q ∙ there-other v p k i j (h .0) ∙ h .1
 
   -- a message that is out of turn is not ready
-  not-ready-of : (k i : ℕ) → (Sent s v k i → ⊥) ⊎ (((m : Sent s v k i) × (v .done (m .rank) ≡ false)) ⊎ (v .delivered k i ≡ true)) → ready s v k i ≡ false
+  not-ready-of : (k i : ℕ) → OutOfTurn s v k i → ready s v k i ≡ false
   not-ready-of k i w = split (ready s v k i) (λ r. absurd (impossible w r)) (λ r. r)
     where
-      impossible : (Sent s v k i → ⊥) ⊎ (((m : Sent s v k i) × (v .done (m .rank) ≡ false)) ⊎ (v .delivered k i ≡ true)) → ready s v k i ≡ true → ⊥
+      impossible : OutOfTurn s v k i → ready s v k i ≡ true → ⊥
       impossible (inl n) r = n (message-true s (v .layout .processors) k i (and-left (isMessage s (v .layout .processors) k i) (sourceDone v (sourceRank s k i) && not (v .delivered k i)) r))
       impossible (inr (inl h)) r =
           let d = and-right (isMessage s (v .layout .processors) k i) (sourceDone v (sourceRank s k i) && not (v .delivered k i)) r in
@@ -160,6 +161,46 @@ module _ (s : LoopNest) (v : View) where
   says-unique mv x (out-of-turn {k = k} {i = i} hk hi h) = deliver-there s v k i hk hi ∙ delivering-refused s v k i (not-ready-of k i h)
   says-unique mv x (delivers {k = k} {i = i} hk hi m d e) =
       deliver-there s v k i hk hi ∙ delivering-ready s v k i (both (true-message s (v .layout .processors) k i m) (both (source-of k i m ∙ d) (ap not e)))
+
+  -- ---- the sentences and the refusals in their order
+
+  -- they name one iteration
+  takes-one : (p j k : ℕ) → Takes s v p j → Takes s v p k → j ≡ k
+  takes-one p j k a b =
+      let low = a .least-step k (b .is-iteration) (b .on-processor) (b .missing) in
+      let high = b .least-step j (a .is-iteration) (a .on-processor) (a .missing) in
+      let first = a .least-rank k (b .is-iteration) (b .on-processor) (b .missing) (omega arith) in
+      let second = b .least-rank j (a .is-iteration) (a .on-processor) (a .missing) (omega arith) in
+      omega arith
+
+  -- an iteration that is taken is not done
+  not-idle : (p k : ℕ) → Takes s v p k → Idle s v p → ⊥
+  not-idle p k n all = clash (all k (n .is-iteration) (n .on-processor)) (n .missing)
+
+  -- a source that is there is not absent
+  not-absent : (p k i j : ℕ) → Present v p k i j → Absent v p k i j → ⊥
+  not-absent p k i j h (inl a) = clash (h .0 (a .0)) (a .1)
+  not-absent p k i j h (inr a) = clash (h .1 (a .0)) (a .1)
+
+  -- what they say is what the order answers
+  pub says-answered : (mv : Move) (x : Effect) → Says s v mv x → Answered (ruleOrder s v mv) (answer x)
+  says-answered mv x (no-processor h) = inl (h, refl)
+  says-answered mv x (idle-processor l d) = inr ((λ h. absurd (omega arith)), inl (d, refl))
+  says-answered mv x (waiting {p = p} {k = k} {i = i} {j = j} l n hi q a) = inr ((λ h. absurd (omega arith)), inr (not-idle p k n, inl ((k, i, j, n, hi, q, a), refl)))
+  says-answered mv x (computes {p = p} {k = k} l n here) = inr ((λ h. absurd (omega arith)), inr (not-idle p k n, inr (none-absent, refl)))
+    where
+      none-absent : SourceAbsent s v p → ⊥
+      none-absent (c, i, j, t, hi, q, a) =
+          let e = takes-one p c k t n in
+          not-absent p k i j (here i j hi (ap (λ o. sourceRank s o i) (sym e) ∙ q)) (subst (λ o. Absent v p o i j) e a)
+  says-answered mv x (no-place h) = inl (h, refl)
+  says-answered mv x (out-of-turn {k = k} {i = i} hk hi w) = inr (elim [ inl a ↦ absurd (omega arith) | inr a ↦ absurd (omega arith) ], inl (w, refl))
+  says-answered mv x (delivers {k = k} {i = i} hk hi m d e) = inr (elim [ inl a ↦ absurd (omega arith) | inr a ↦ absurd (omega arith) ], inr (in-turn, refl))
+    where
+      in-turn : OutOfTurn s v k i → ⊥
+      in-turn (inl never) = never m
+      in-turn (inr (inl (n, u))) = clash d (sym (source-of k i m) ∙ source-of k i n ∙ u)
+      in-turn (inr (inr u)) = clash u e
 
   -- a move has an effect exactly if the sentences say so
   pub says-iff : (mv : Move) (x : Effect) → Says s v mv x ↔ (effect s v mv ≡ x)

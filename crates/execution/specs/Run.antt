@@ -1,18 +1,16 @@
 -- The run on lent tables of any content (document 01, "The run"), under any rule. The state has three buffers, which may be longer than there are iterations; entry k
 -- of each is iteration k's. `moveEffect` is the transition of the entry that makes a move: refusals 2 to 14, then the rules.
 -- Assumes nothing.
-use mathlib.Core.Path.{_≡_}
 use mathlib.Core.Bool.{Bool, true, false, not}
-use mathlib.Core.Logic.{_⊎_}
 use mathlib.Core.List.{List, [], _∷_}
-use Prim.Native.Nat.{ℕ, _+_, _/_, _%_, _^_, _<_}
+use Prim.Native.Nat.{ℕ, _+_, _/_, _%_, _^_}
 use lib.Dec.{eqb}
 use lib.ListN.{length, getD, set}
 use Rattle.nest.specs.declared.LoopNest.{LoopNest}
 use Rattle.nest.specs.Points.{pointsOf}
-use Rattle.nest.specs.Refusals.{refusal, orElse, shortBuffer, Met}
+use Rattle.nest.specs.Refusals.{refusal, orElse, shortBuffer}
 use Rattle.sequential.specs.Sequential.{Rule, valueOf}
-use Rattle.planner.specs.Plan.{noRoom, OneShort}
+use Rattle.planner.specs.Plan.{noRoom}
 use Rattle.execution.specs.Rules.{Move, Effect, refuse, iteration, message, answer, Layout, View, effect}
 
 -- for each iteration a value, a done byte (0 is not done) and a delivered byte
@@ -48,12 +46,6 @@ unfoldable pub moveRefusal : LoopNest → ℕ → ℕ → ℕ → ℕ → ℕ �
 moveRefusal s steps processors values done delivered =
     let n = length (pointsOf s) in
     orElse (refusal s) (orElse (noRoom n steps processors values done) (shortBuffer n delivered))
-
--- their conditions in the document's words (proofs/Answers.antt: the first that is met is answered)
-abbrev pub MoveMet : LoopNest → ℕ → ℕ → ℕ → ℕ → ℕ → ℕ → Type 0
-MoveMet s steps processors values done delivered k =
-    let n = length (pointsOf s) in
-    Met s k ⊎ ((k ≡ 14) × (OneShort n steps processors values done ⊎ (delivered < n)))
 
 -- for this layout and state
 abbrev pub stateRefusal : {Val : Type 0} → LoopNest → Layout → State Val → ℕ

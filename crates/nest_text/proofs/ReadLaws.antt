@@ -11,7 +11,7 @@ use lib.Seq.{take-nil, drop-nil}
 use Rattle.nest.specs.declared.LoopNest.{LoopNest}
 use Rattle.nest.specs.Nest.{depthOf, countOf, padded, emptyNest}
 use Rattle.nest.specs.Refusals.{holds, firstMet, headerOrder, bodyOrder, orElse, refusal}
-use Rattle.nest.proofs.Entries.{orElse-first, orElse-second, orElse-zero}
+use Rattle.nest.proofs.Entries.{orElse-first, orElse-second, orElse-assoc, orElse-zero}
 use Rattle.nest.proofs.FirstMet.{behind-header}
 use Rattle.nest.proofs.Spans.{HeaderSpans, header-spans}
 use Rattle.nest_text.specs.declared.Reading.{Reading}
@@ -34,14 +34,8 @@ refusedAs r = record { refusal = r; nest = emptyNest }
 
 -- ---- the first of two answers
 
--- three in a row
-refusals-assoc : (a b c : ℕ) → orElse a (orElse b c) ≡ orElse (orElse a b) c
-unfolding orElse
-refusals-assoc zero b c = refl
-refusals-assoc (suc a) b c = refl
-
 -- not 1: the form is kept
-form-kept : (b : Bool) → malformedUnless b ≡ 0 → b ≡ true
+pub form-kept : (b : Bool) → malformedUnless b ≡ 0 → b ≡ true
 form-kept true e = refl
 form-kept false e = absurd (omega arith)
 
@@ -122,10 +116,10 @@ module _ (bs : Bytes) where
   -- the refusals of line 1, then those of the rest
   in-two : readRefusal bs ≡ orElse (headerRefusal bs) bodyRefusal
   unfolding readRefusal headerRefusal
-  in-two = refusals-assoc (malformedUnless (isLine headerWidth bs)) (firstMet (headerOf bs) headerOrder) bodyRefusal
+  in-two = orElse-assoc (malformedUnless (isLine headerWidth bs)) (firstMet (headerOf bs) headerOrder) bodyRefusal
 
   -- ---- line 1
-  pub header-malformed : isLine headerWidth bs ≡ false → headerRefusal bs ≡ 1
+  header-malformed : isLine headerWidth bs ≡ false → headerRefusal bs ≡ 1
   unfolding headerRefusal orElse
   header-malformed e = rw e refl
 
@@ -145,7 +139,7 @@ module _ (bs : Bytes) where
   header-passed e = rw (headerRead, e) refl
 
   -- where line 1 is refused, so is the text
-  pub header-answers : (headerRefusal bs ≡ 0 → ⊥) → readRefusal bs ≡ headerRefusal bs
+  header-answers : (headerRefusal bs ≡ 0 → ⊥) → readRefusal bs ≡ headerRefusal bs
   header-answers h = in-two ∙ orElse-first (headerRefusal bs) bodyRefusal h
 
   -- where the text is not refused, neither is line 1
@@ -221,7 +215,7 @@ module _ (bs : Bytes) where
     body-filled = sym (filled-nest n m c (behind headerWidth bs) (fitting .depth-few) (fitting .count-few))
 
     -- it has line 1's shape, so the refusals of line 1 are not met
-    pub shape-kept : firstMet (bodyOf bs) headerOrder ≡ 0
+    shape-kept : firstMet (bodyOf bs) headerOrder ≡ 0
     shape-kept =
         let f = filled-shape n m c (lineNumbers (widths n m) (behind headerWidth bs)) in
         same-shape (bodyOf bs) (headerOf bs) (ap (λ (s : LoopNest). s .depth) body-filled ∙ (f .0 ∙ sym (fitting .depth-is)))
@@ -243,7 +237,7 @@ module _ (bs : Bytes) where
         form-kept (areLines (widthsOf bs) (behind headerWidth bs)) (orElse-zero (malformedUnless (areLines (widthsOf bs) (behind headerWidth bs))) (firstMet (bodyOf bs) bodyOrder) (sym rest-refusal ∙ e) .0)
 
     -- a malformed rest
-    pub rest-malformed : areLines (widthsOf bs) (behind headerWidth bs) ≡ false → readRefusal bs ≡ 1
+    rest-malformed : areLines (widthsOf bs) (behind headerWidth bs) ≡ false → readRefusal bs ≡ 1
     unfolding orElse
     rest-malformed e = rest-refusal ∙ (rw e refl)
 

@@ -84,7 +84,7 @@ fits-columns s e zs m z n =
     (leZ-yes (true-T (b .0)), leZ-yes (true-T (b .1)), field-length z c)
 
 -- an accepted text is read as what its lines say
-read-is : (bs : Bytes) → readRefusal bs ≡ 0 → readNest bs ≡ bodyOf bs
+pub read-is : (bs : Bytes) → readRefusal bs ≡ 0 → readNest bs ≡ bodyOf bs
 read-is bs e = sym (ap (λ (x : Reading). x .nest) (whole-passed bs e))
 
 -- ---- what was written is read
@@ -134,7 +134,7 @@ unfolding headed
 shape-same s = same-shape (headed (shapeLine s)) s refl refl refl
 
 -- it is answered as the nest with 0 in the places that are no part of it, where line 1 passes
-pub text-answered : (s : LoopNest) → LinesInColumns (linesOf s) → firstMet s headerOrder ≡ 0 → readRefusal (textOf s) ≡ refusal (cleared s)
+text-answered : (s : LoopNest) → LinesInColumns (linesOf s) → firstMet s headerOrder ≡ 0 → readRefusal (textOf s) ≡ refusal (cleared s)
 text-answered s h e =
     let bs = textOf s in
     let r = text-read s h in
@@ -165,6 +165,10 @@ pub record WrittenRead (bs : Bytes) : Type 0 where
 pub whole-text : (bs : Bytes) (s : LoopNest) → Whole bs s → LinesInColumns (linesOf s) × (bs ≡ textOf s)
 unfolding textOf
 whole-text bs s w = consists-written bs (linesOf s) (w .lines-are)
+
+-- and is read as that nest
+pub whole-body : (bs : Bytes) (s : LoopNest) → Whole bs s → bodyOf bs ≡ s
+whole-body bs s w = let t = whole-text bs s w in ap bodyOf (t .1) ∙ text-read s (t .0) .body ∙ w .other-places
 
 -- a text in form, with line 1 in span, says the nest that is read
 pub body-whole : (bs : Bytes) → headerRefusal bs ≡ 0 → areLines (widthsOf bs) (behind headerWidth bs) ≡ true → Whole bs (bodyOf bs)

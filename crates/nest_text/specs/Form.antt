@@ -3,12 +3,12 @@
 -- Assumes nothing.
 use mathlib.Core.Path.{_≡_}
 use mathlib.Core.List.{List, [], _∷_, _++_, map}
-use Prim.Native.Nat.{ℕ, _+_, _*_, _^_, _<_, _≤_}
+use Prim.Native.Nat.{ℕ, _+_, _*_, _^_, _<_}
 use lib.IntN.{ℤ, pos, negℤ}
 use lib.ListN.{length, getD, replicate}
 use Rattle.nest.specs.declared.LoopNest.{LoopNest}
 use Rattle.nest.specs.Nest.{toℕ, cleared, emptyNest}
-use Rattle.nest.specs.Refusals.{Refusal, number, Condition, First}
+use Rattle.nest.specs.Refusals.{Refusal, headerOrder, bodyOrder, Condition, Order, Answered, numbered}
 use Rattle.nest_text.specs.Fields.{Bytes, newline}
 use Rattle.nest_text.specs.Text.{linesOf, widths, headed}
 
@@ -64,16 +64,32 @@ pub record Whole (bs : Bytes) (s : LoopNest) : Type 0 where
   pub lines-are : Consists bs (linesOf s)
   pub other-places : cleared s ≡ s
 
--- what reading answers: a number, and a nest, which is 0 in every place where the text is refused
-pub data ReadSays (bs : Bytes) : ℕ → LoopNest → Type 0 where
-  -- line 1 is not in form: 1
-  line-malformed : ((n m c : ℤ) (rest : Bytes) → Begins bs (n ∷ m ∷ c ∷ []) rest → ⊥) → ReadSays bs 1 emptyNest
-  -- line 1 says n, m and c, of whose conditions r is the first met: 2, 3 or 4
-  line-refused : (n m c : ℤ) (rest : Bytes) (r : Refusal) → Begins bs (n ∷ m ∷ c ∷ []) rest → number r ≤ 4 → First (headed (n ∷ m ∷ c ∷ [])) r → ReadSays bs (number r) emptyNest
-  -- none of 2, 3, 4 is met, and the rest is not the lines that n and m ask for: 1
-  rest-malformed : (n m c : ℤ) (rest : Bytes) → Begins bs (n ∷ m ∷ c ∷ []) rest → ((q : Refusal) → number q ≤ 4 → Condition (headed (n ∷ m ∷ c ∷ [])) q → ⊥)
-      → ((ls : List (List ℤ)) → map length ls ≡ widths (toℕ n) (toℕ m) → Consists rest ls → ⊥) → ReadSays bs 1 emptyNest
-  -- the text says a nest of whose conditions r is the first met: 5 to 13
-  nest-refused : (s : LoopNest) (r : Refusal) → Whole bs s → 5 ≤ number r → First s r → ReadSays bs (number r) emptyNest
-  -- the text says a nest of which no condition is met: 0, with the nest
-  nest-accepted : (s : LoopNest) → Whole bs s → ((q : Refusal) → Condition s q → ⊥) → ReadSays bs 0 s
+-- ---- what reading answers
+
+-- line 1 is not in form
+abbrev pub LineMalformed : Bytes → Type 0
+LineMalformed bs = (n m c : ℤ) (rest : Bytes) → Begins bs (n ∷ m ∷ c ∷ []) rest → ⊥
+
+-- line 1 says n, m and c, and a nest of these meets the condition
+abbrev pub LineMeets : Bytes → Refusal → Type 0
+LineMeets bs r = (n : ℤ) × (m : ℤ) × (c : ℤ) × (rest : Bytes) × Begins bs (n ∷ m ∷ c ∷ []) rest × Condition (headed (n ∷ m ∷ c ∷ [])) r
+
+-- line 1 says n, m and c, and the rest is not the lines that n and m ask for
+abbrev pub RestMalformed : Bytes → Type 0
+RestMalformed bs =
+    (n : ℤ) × (m : ℤ) × (c : ℤ) × (rest : Bytes) × Begins bs (n ∷ m ∷ c ∷ []) rest
+    × ((ls : List (List ℤ)) → map length ls ≡ widths (toℕ n) (toℕ m) → Consists rest ls → ⊥)
+
+-- the text says a nest that meets the condition
+abbrev pub NestMeets : Bytes → Refusal → Type 0
+NestMeets bs r = (s : LoopNest) × Whole bs s × Condition s r
+
+-- the refusals of a text in their order: line 1's form, then 2, 3, 4; the form of the remaining lines; then 5 to 13
+abbrev pub readOrder : Bytes → Order
+readOrder bs = (1, LineMalformed bs) ∷ (numbered (LineMeets bs) headerOrder ++ ((1, RestMalformed bs) ∷ numbered (NestMeets bs) bodyOrder))
+
+-- a number and a nest: the number is what the order answers; the nest is what the text says where that is 0, and 0 in every place where the text is refused
+pub record ReadSays (bs : Bytes) (k : ℕ) (x : LoopNest) : Type 0 where
+  pub number-is : Answered (readOrder bs) k
+  pub nest-said : k ≡ 0 → Whole bs x
+  pub nest-refused : (k ≡ 0 → ⊥) → x ≡ emptyNest

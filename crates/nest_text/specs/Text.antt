@@ -11,7 +11,7 @@ use lib.ListN.{length, getD, take, drop, replicate}
 use Rattle.integers.specs.Lists.{any, tab}
 use Rattle.nest.specs.declared.LoopNest.{LoopNest}
 use Rattle.nest.specs.Nest.{depthOf, countOf, limitsOf, timeOf, dependencesOf, weightsOf, nestOf, emptyNest, maxDepth, maxDependences}
-use Rattle.nest.specs.Refusals.{firstMet, headerOrder, bodyOrder, refusal, orElse, shortBuffer, tableAfter, Met}
+use Rattle.nest.specs.Refusals.{firstMet, headerOrder, bodyOrder, refusal, orElse, shortBuffer, tableAfter, Order, nestOrder}
 use Rattle.nest_text.specs.declared.Reading.{Reading}
 use Rattle.nest_text.specs.declared.Writing.{Writing}
 use Rattle.nest_text.specs.declared.fields.Field.{Field}
@@ -132,9 +132,9 @@ readNest bs = elim (eqb (readRefusal bs) 0) [ true ↦ bodyOf bs | false ↦ emp
 unfoldable pub writeRefusal : ℕ → Bytes → ℕ → ℕ
 writeRefusal number bytes room = orElse number (shortBuffer (length bytes) room)
 
--- the conditions of `write`'s numbers in the document's words (proofs/Answers.antt: the first that is met is answered)
-abbrev pub WriteMet : LoopNest → ℕ → ℕ → Type 0
-WriteMet s room k = Met s k ⊎ ((k ≡ 14) × (room < length (textOf s)))
+-- the refusals of `write` in their order (proofs/Answers.antt: its number is what they answer)
+abbrev pub writeOrder : LoopNest → ℕ → Order
+writeOrder s room = nestOrder s ++ ((14, room < length (textOf s)) ∷ [])
 
 -- how many bytes are written: none where the call is refused
 unfoldable pub writtenLength : ℕ → Bytes → ℕ → ℕ

@@ -1,30 +1,45 @@
--- The refusals of `plan` and `list`: a number is answered exactly if its condition is met and none before it is.
+-- The numbers that `plan` and `list` answer are what their refusals, in their order, answer.
 -- Assumes nothing.
-use mathlib.Core.Path.{_≡_}
-use Prim.Native.Nat.{ℕ}
+use mathlib.Core.List.{[], _∷_}
+use Prim.Native.Nat.{ℕ, _<_}
 use native.Mathlib.Omega.{arith}
 use lib.ListN.{length}
 use Rattle.nest.specs.declared.LoopNest.{LoopNest}
 use Rattle.nest.specs.Points.{pointsOf}
-use Rattle.nest.specs.Refusals.{FirstOf}
-use Rattle.nest.proofs.Answers.{known-first, short-first, behind, either-first, call-first}
+use Rattle.nest.specs.Refusals.{shortBuffer, Answered, FromOne}
+use Rattle.nest.proofs.Answers.{answered-append, one-append, short-answered, either-answered, call-one, call-answered}
 use Rattle.nest_text.specs.Fields.{Bytes}
 use Rattle.nest_text.specs.Text.{readRefusal, readNest, writeRefusal}
-use Rattle.nest_text.proofs.SaysLaws.{read-numbers}
-use Rattle.planner.specs.Plan.{noRoom, planRefusal, OneShort, PlanMet}
-use Rattle.planner.specs.Listing.{planText, ListMet}
+use Rattle.nest_text.specs.Form.{readOrder}
+use Rattle.nest_text.proofs.Answers.{read-answered, read-one}
+use Rattle.planner.specs.Plan.{noRoom, planRefusal, OneShort, planOrder}
+use Rattle.planner.specs.Listing.{planText, listOrder}
 
 -- 14, of four tables
-pub room-first : (n a b c d : ℕ) → FirstOf (λ k. (k ≡ 14) × OneShort n a b c d) (noRoom n a b c d)
-room-first n a b c d = either-first (short-first n a) (either-first (short-first n b) (either-first (short-first n c) (short-first n d)))
+pub room-answered : (n a b c d : ℕ) → Answered ((14, OneShort n a b c d) ∷ []) (noRoom n a b c d)
+room-answered n a b c d =
+    either-answered 14 (shortBuffer n a) _ (omega arith) (short-answered n a)
+    (either-answered 14 (shortBuffer n b) _ (omega arith) (short-answered n b)
+    (either-answered 14 (shortBuffer n c) (shortBuffer n d) (omega arith) (short-answered n c) (short-answered n d)))
 
-pub plan-first : (s : LoopNest) (steps blocks processors values : ℕ) → FirstOf (PlanMet s steps blocks processors values) (planRefusal s steps blocks processors values)
+-- 2 to 13, then 14
+pub plan-answered : (s : LoopNest) (steps blocks processors values : ℕ) → Answered (planOrder s steps blocks processors values) (planRefusal s steps blocks processors values)
 unfolding planRefusal
-plan-first s steps blocks processors values = call-first s (room-first (length (pointsOf s)) steps blocks processors values) (λ k m. let e = m .0 in omega arith)
+plan-answered s steps blocks processors values =
+    let n = length (pointsOf s) in
+    call-answered s ((14, OneShort n steps blocks processors values) ∷ []) (noRoom n steps blocks processors values) (λ e. room-answered n steps blocks processors values)
 
--- 1 to 13 of the text, then 14
-pub list-first : (text : Bytes) (room : ℕ) → FirstOf (ListMet text room) (writeRefusal (readRefusal text) (planText (readNest text)) room)
+-- none of these numbers is 0
+pub plan-one : (s : LoopNest) (steps blocks processors values : ℕ) → FromOne (planOrder s steps blocks processors values)
+plan-one s steps blocks processors values = call-one s ((14, OneShort (length (pointsOf s)) steps blocks processors values) ∷ []) (omega arith, tt)
+
+-- those of the text, then 14
+pub list-answered : (text : Bytes) (room : ℕ) → Answered (listOrder text room) (writeRefusal (readRefusal text) (planText (readNest text)) room)
 unfolding writeRefusal
-list-first text room =
+list-answered text room =
     let needed = length (planText (readNest text)) in
-    behind (known-first (readRefusal text)) (short-first needed room) (λ q k m n. let l = read-numbers text in let e = m .1 in let i = n .0 in omega arith)
+    answered-append (readOrder text) ((14, room < needed) ∷ []) (readRefusal text) (shortBuffer needed room) (read-one text) (read-answered text) (λ e. short-answered needed room)
+
+-- none of these numbers is 0
+pub list-one : (text : Bytes) (room : ℕ) → FromOne (listOrder text room)
+list-one text room = one-append (readOrder text) ((14, room < length (planText (readNest text))) ∷ []) (read-one text) (omega arith, tt)

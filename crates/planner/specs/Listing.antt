@@ -1,19 +1,19 @@
 -- The listing (document 01, "A listing in full"): what the planning program prints for a text.
 -- Assumes nothing.
-use mathlib.Core.Path.{_≡_}
 use mathlib.Core.Bool.{true, false}
-use mathlib.Core.Logic.{_⊎_}
-use mathlib.Core.List.{List, [], _∷_, map, flatMap}
-use Prim.Native.Nat.{ℕ, _<_, _≤_}
+use mathlib.Core.List.{List, [], _∷_, _++_, map, flatMap}
+use Prim.Native.Nat.{ℕ, _<_}
 use lib.Dec.{eqb}
 use lib.IntN.{ℤ, pos}
 use lib.ListN.{length}
 use Rattle.integers.specs.Lists.{tab}
 use Rattle.nest.specs.declared.LoopNest.{LoopNest}
 use Rattle.nest.specs.Points.{pointsOf}
+use Rattle.nest.specs.Refusals.{Order}
 use Rattle.nest_text.specs.Fields.{Bytes}
 use Rattle.nest_text.specs.declared.Writing.{Writing}
 use Rattle.nest_text.specs.Text.{line, readRefusal, readNest, Puts}
+use Rattle.nest_text.specs.Form.{readOrder}
 use Rattle.partition.specs.Partition.{stepsOf, blocksOf}
 use Rattle.mapping.specs.Mapping.{processorsOf}
 use Rattle.sequential.specs.Sequential.{valuesOf}
@@ -33,9 +33,9 @@ planText s = flatMap line (planLines s)
 unfoldable pub listing : Bytes → Bytes
 listing text = elim (eqb (readRefusal text) 0) [ true ↦ planText (readNest text) | false ↦ line (pos (readRefusal text) ∷ []) ]
 
--- the conditions of `list`'s numbers: those of the text (nest_text Form.ReadSays), then 14 (proofs/Answers.antt: the first that is met is answered)
-abbrev pub ListMet : Bytes → ℕ → ℕ → Type 0
-ListMet text room k = ((1 ≤ k) × (readRefusal text ≡ k)) ⊎ ((k ≡ 14) × (room < length (planText (readNest text))))
+-- `list`'s refusals in their order: those of the text, then 14 (proofs/Answers.antt: the number is what they answer)
+abbrev pub listOrder : Bytes → ℕ → Order
+listOrder text room = readOrder text ++ ((14, room < length (planText (readNest text))) ∷ [])
 
 -- what a call of `list` promises that answers r and leaves the buffer `new`, which it found as `old`
 abbrev pub Lists : Bytes → Bytes → Writing → Bytes → Type 0

@@ -3,13 +3,13 @@
 use mathlib.Core.Path.{_≡_}
 use mathlib.Core.Bool.{true, false}
 use mathlib.Core.Logic.{_⊎_}
-use mathlib.Core.List.{List, [], _∷_}
+use mathlib.Core.List.{List, [], _∷_, _++_}
 use Prim.Native.Nat.{ℕ, _<_}
 use lib.Dec.{eqb}
 use lib.ListN.{length}
 use Rattle.nest.specs.declared.LoopNest.{LoopNest}
 use Rattle.nest.specs.Points.{pointsOf}
-use Rattle.nest.specs.Refusals.{refusal, orElse, shortBuffer, tableAfter, Met}
+use Rattle.nest.specs.Refusals.{refusal, orElse, shortBuffer, tableAfter, Order, nestOrder}
 use Rattle.partition.specs.Partition.{stepsOf, stepCount, blocksOf, blockCount}
 use Rattle.mapping.specs.Mapping.{processorsOf, processorCount, messageCount}
 use Rattle.sequential.specs.Sequential.{valuesOf}
@@ -35,9 +35,9 @@ planRefusal s steps blocks processors values = orElse (refusal s) (noRoom (lengt
 abbrev pub OneShort : ℕ → ℕ → ℕ → ℕ → ℕ → Type 0
 OneShort n steps blocks processors values = (steps < n) ⊎ ((blocks < n) ⊎ ((processors < n) ⊎ (values < n)))
 
--- the conditions of these numbers in the document's words (proofs/Answers.antt: the first that is met is answered)
-abbrev pub PlanMet : LoopNest → ℕ → ℕ → ℕ → ℕ → ℕ → Type 0
-PlanMet s steps blocks processors values k = Met s k ⊎ ((k ≡ 14) × OneShort (length (pointsOf s)) steps blocks processors values)
+-- `plan`'s refusals in their order (proofs/Answers.antt: the number is what they answer)
+abbrev pub planOrder : LoopNest → ℕ → ℕ → ℕ → ℕ → Order
+planOrder s steps blocks processors values = nestOrder s ++ ((14, OneShort (length (pointsOf s)) steps blocks processors values) ∷ [])
 
 -- refused with this number: every count is 0
 abbrev pub refusedWith : ℕ → Planning

@@ -2,8 +2,7 @@
 -- Assumes nothing.
 use mathlib.Core.Path.{_≡_}
 use mathlib.Core.Bool.{true, false}
-use mathlib.Core.Logic.{_⊎_}
-use mathlib.Core.List.{List}
+use mathlib.Core.List.{List, [], _∷_, _++_}
 use Prim.Native.Nat.{ℕ, _<_}
 use lib.Dec.{eqb}
 use lib.IntN.{ℤ, pos}
@@ -13,7 +12,7 @@ use Rattle.integers.specs.Lists.{count}
 use Rattle.integers.specs.Vector.{Vector, eqZ}
 use Rattle.nest.specs.declared.LoopNest.{LoopNest}
 use Rattle.nest.specs.Points.{pointsOf}
-use Rattle.nest.specs.Refusals.{refusal, outside, orElse, shortBuffer, limit, Outside, Met}
+use Rattle.nest.specs.Refusals.{refusal, outside, orElse, shortBuffer, limit, Outside, Order, nestOrder}
 use Rattle.rows.specs.declared.Span.{Span}
 
 -- the outermost index of a point
@@ -35,9 +34,9 @@ noSuchRow s i = elim (outside (limit s 0 .lower) (limit s 0 .upper) i) [ true �
 unfoldable pub rowRefusal : LoopNest → ℕ → ℤ → ℕ
 rowRefusal s entries i = orElse (refusal s) (orElse (shortBuffer (length (pointsOf s)) entries) (noSuchRow s i))
 
--- the conditions of its numbers in the document's words (proofs/Answers.antt: the first that is met is answered)
-abbrev pub RowMet : LoopNest → ℕ → ℤ → ℕ → Type 0
-RowMet s entries i k = Met s k ⊎ (((k ≡ 14) × (entries < length (pointsOf s))) ⊎ ((k ≡ 19) × Outside (limit s 0 .lower) (limit s 0 .upper) i))
+-- these refusals in their order (proofs/Answers.antt: the number is what they answer)
+abbrev pub rowOrder : LoopNest → ℕ → ℤ → Order
+rowOrder s entries i = nestOrder s ++ ((14, entries < length (pointsOf s)) ∷ (19, Outside (limit s 0 .lower) (limit s 0 .upper) i) ∷ [])
 
 -- where the row lies in a table of so many entries; 0 and 0 where the call is refused
 unfoldable pub spanOf : LoopNest → ℕ → ℤ → Span
