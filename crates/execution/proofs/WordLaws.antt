@@ -18,7 +18,7 @@ use Rattle.nest.specs.Refusals.{Answered}
 use Rattle.nest.specs.Sources.{sourceRank}
 use Rattle.mapping.specs.Mapping.{isMessage}
 use Rattle.mapping.proofs.Theorems.{message-true, true-message}
-use Rattle.execution.specs.Rules.{every, Move, compute, deliver, Effect, refuse, iteration, message, Layout, View, stepIn, processorIn, waits, there, sourceDone, taking, effect, ready}
+use Rattle.execution.specs.Rules.{every, Move, compute, deliver, Effect, refuse, iteration, message, answer, Layout, View, stepIn, processorIn, waits, there, sourceDone, taking, effect, ready}
 use Rattle.execution.specs.Machine.{Machine, machineAfter, machineView, machineNext, machineRun, machineTold}
 use Rattle.execution.specs.Words.{Takes, Present, Absent, Sent, Idle, SourceAbsent, OutOfTurn, Says, no-processor, idle-processor, waiting, computes, no-place, out-of-turn, delivers, ruleOrder, SaysList, no-move, next-move}
 use Rattle.execution.proofs.Base.{eq?, opt, both, and-left, and-right, every-true, every-false, every-intro, every-refute, least-none, least-some, least-empty, least-unique}

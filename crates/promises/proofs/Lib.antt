@@ -1,3 +1,4 @@
 -- The three demands, proved. Assumes nothing.
+pub mod FirstDemand
 pub mod SecondDemand
 pub mod ThirdDemand

@@ -14,25 +14,39 @@ use Rattle.integers.proofs.ListFacts.{getD-map}
 use Rattle.nest.specs.declared.LoopNest.{LoopNest}
 use Rattle.nest.specs.Nest.{toℕ, cleared}
 use Rattle.nest.specs.Points.{pointsOf}
-use Rattle.nest.specs.Refusals.{refusal, orElse, shortBuffer, tableAfter}
+use Rattle.nest.specs.declared.Inspection.{Inspection}
+use Rattle.nest.specs.Refusals.{refusal, shortBuffer, tableAfter, Order, Answered, nestOrder}
+use Rattle.nest.proofs.Answers.{answered-unique, nest-answered}
 use Rattle.nest.proofs.Entries.{orElse-zero, orElse-second, long-enough, made-table}
-use Rattle.partition.specs.Partition.{stepsOf, stepCount, groupsOf, blocksOf, blockCount}
-use Rattle.partition.specs.GroupRows.{noGroup}
+use Rattle.partition.specs.Partition.{stepsOf, stepCount, groupsOf, blocksOf, blockCount, noGroup}
 use Rattle.partition.proofs.Theorems.{steps-length, step-is, step-below, last-step, blocks-length, block-below, block-used, block-order, block-iff, one-iteration-a-step, later-step}
 use Rattle.mapping.specs.Mapping.{processorsOf, processorCount, messageCount, directionsOf, processor}
 use Rattle.mapping.proofs.Theorems.{groups-length, processors-length, processors-below, messages-counted}
-use Rattle.sequential.specs.Sequential.{sequential, ruleOf, valuesOf}
+use Rattle.sequential.specs.Sequential.{ruleOf, valuesOf, fillRefusal, fillOrder}
+use Rattle.sequential.proofs.Answers.{fill-answered}
 use Rattle.sequential.proofs.LoopLaws.{loop-value}
 use Rattle.planner.specs.declared.Planning.{Planning}
-use Rattle.planner.specs.Plan.{planAnswer, Tables, tablesRefusal, Plans}
+use Rattle.planner.specs.Plan.{planRefusal, planOrder, planAnswer, Tables, tablesRefusal, Plans}
+use Rattle.planner.specs.Listing.{planText, listOrder}
+use Rattle.planner.proofs.Answers.{plan-answered, list-answered}
 use Rattle.planner.proofs.PlanLaws.{values-length}
+use Rattle.execution.specs.Run.{moveAnswer}
+use Rattle.execution.specs.Words.{moveOrder}
+use Rattle.execution.specs.Entry.{numberOf}
+use Rattle.execution.proofs.Answers.{move-answered}
 use Rattle.execution.proofs.Demand.{plan-number, plan-accepted}
 use Rattle.nest_text.specs.Fields.{Bytes}
 use Rattle.nest_text.specs.declared.Reading.{Reading}
 use Rattle.nest_text.specs.declared.Writing.{Writing}
-use Rattle.nest_text.specs.Text.{textOf, readRefusal, readNest, writeRefusal, writtenLength, written, Puts, Reads, Writes}
+use Rattle.nest_text.specs.Text.{textOf, readRefusal, readNest, writeRefusal, writtenLength, written, writeOrder, Puts, Reads, Writes}
+use Rattle.nest_text.specs.Form.{readOrder}
+use Rattle.nest_text.proofs.Answers.{read-answered, write-answered}
+use Rattle.rows.specs.declared.Span.{Span}
+use Rattle.rows.specs.Rows.{rowRefusal, rowOrder}
+use Rattle.rows.proofs.SpanLaws.{span-refusal}
+use Rattle.rows.proofs.Answers.{row-answered}
 use Rattle.nest_text.proofs.RoundTrip.{read-written, written-read}
-use Rattle.promises.specs.Demand2.{size, leastProduct, at, Planned, SameText, Demand2}
+use Rattle.promises.specs.Demand2.{size, leastProduct, at, Planned, SameText, Exactly, Conditions, Demand2}
 
 -- ---- a plan
 module _ (s : LoopNest) (old : Tables) (p : Planning) (t : Tables) (P : Plans s old p t) (z : p .refusal ≡ 0) where
@@ -167,5 +181,34 @@ same-text = record {
       (put-answer (refusal (readNest text)) text old new w P z, put-buffer (refusal (readNest text)) text old new w P z);
 }
 
+-- ---- refusals
+
+-- an order says one number
+exactly : (order : Order) (number answered : ℕ) → number ≡ answered → Answered order answered → Exactly order number
+exactly order number answered e a k = (λ q. subst (Answered order) (sym e ∙ q) a, λ b. e ∙ answered-unique order answered k a b)
+
+-- of every entry
+conditions : Conditions
+conditions = record {
+  check = λ s r e. exactly (nestOrder s) r (refusal s) e (nest-answered s);
+  inspect = λ s r e. exactly (nestOrder s) (r .refusal) (refusal s) (ap (λ (x : Inspection). x .refusal) e) (nest-answered s);
+  read = λ text r e. exactly (readOrder text) (r .refusal) (readRefusal text) (ap (λ (x : Reading). x .refusal) e) (read-answered text);
+  write = λ s old r new e.
+      exactly (writeOrder s (length old)) (r .refusal) (writeRefusal (refusal s) (textOf s) (length old)) (ap (λ (x : Writing). x .refusal) (e .0)) (write-answered s (length old));
+  locate = λ s entries i r e. exactly (rowOrder s entries i) (r .refusal) (rowRefusal s entries i) (ap (λ (x : Span). x .refusal) e ∙ span-refusal s entries i) (row-answered s entries i);
+  row = λ s table i part k e. exactly (rowOrder s (length table) i) k (rowRefusal s (length table) i) (e .1) (row-answered s (length table) i);
+  fill = λ s old r new e. exactly (fillOrder s (length old)) r (fillRefusal s (length old)) (e .0) (fill-answered s (length old));
+  plan = λ s old r new e.
+      let a = length (old .steps) in
+      let b = length (old .blocks) in
+      let c = length (old .processors) in
+      let d = length (old .values) in
+      exactly (planOrder s a b c d) (r .refusal) (planRefusal s a b c d) (ap (λ (x : Planning). x .refusal) (e .0) ∙ plan-number s (planRefusal s a b c d)) (plan-answered s a b c d);
+  list = λ text old r new e.
+      exactly (listOrder text (length old)) (r .refusal) (writeRefusal (readRefusal text) (planText (readNest text)) (length old)) (ap (λ (x : Writing). x .refusal) (e .0)) (list-answered text (length old));
+  move = λ s L st mv r st′ e. exactly (moveOrder s L st mv) (numberOf r) (moveAnswer s L st mv) (e .1 .0) (move-answered s L st mv);
+}
+
+-- ---- demand 2
 pub demand-2 : Demand2
-demand-2 = record { plan = planned; text = same-text }
+demand-2 = record { plan = planned; refusals = conditions; text = same-text }

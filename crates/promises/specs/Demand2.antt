@@ -3,7 +3,7 @@
 -- and no other. A nest read and written is the same nest, as text and as numbers. It is said of what calls of the entries answer and leave.
 -- Assumes nothing.
 use mathlib.Core.Path.{_≡_}
-use mathlib.Core.List.{List, [], _++_, map}
+use mathlib.Core.List.{List, _++_, map}
 use mathlib.Core.Logic.{_↔_}
 use Prim.Native.Nat.{ℕ, suc, _^_, _<_, _≤_}
 use lib.IntN.{ℤ, pos, _+ℤ_}
@@ -11,31 +11,36 @@ use lib.ListN
 use lib.ListN.{getD, take, drop}
 use Rattle.integers.specs.Extremes.{leastZ}
 use Rattle.integers.specs.Lists.{count}
-use Rattle.integers.specs.Vector.{Vector, dots}
+use Rattle.integers.specs.Vector.{dots}
 use Rattle.nest.specs.declared.LoopNest.{LoopNest}
 use Rattle.nest.specs.Nest.{toℕ, countOf, timeOf, cleared}
 use Rattle.nest.specs.Points.{pointsOf, source}
-use Rattle.nest.specs.Refusals.{dependence}
+use Rattle.nest.specs.declared.Inspection.{Inspection}
+use Rattle.nest.specs.Refusals.{dependence, Order, Answered, nestOrder, Checks, Inspects}
 use Rattle.nest_text.specs.Fields.{Bytes}
 use Rattle.nest_text.specs.declared.Reading.{Reading}
 use Rattle.nest_text.specs.declared.Writing.{Writing}
-use Rattle.nest_text.specs.Text.{Reads, Writes}
-use Rattle.partition.specs.Partition.{stepsOf, groupsOf, blocksOf}
-use Rattle.partition.specs.GroupRows.{noGroup}
-use Rattle.mapping.specs.Mapping.{processorsOf, processorCount, isMessage}
-use Rattle.mapping.proofs.Theorems.{pairs}
-use Rattle.sequential.specs.Sequential.{valueOf, ruleOf, valuesOf}
+use Rattle.nest_text.specs.Text.{writeOrder, Reads, Writes}
+use Rattle.nest_text.specs.Form.{readOrder}
+use Rattle.rows.specs.declared.Span.{Span}
+use Rattle.rows.specs.Rows.{rowOrder, Locates, Cuts}
+use Rattle.partition.specs.Partition.{stepsOf, blocksOf, point, groupAt}
+use Rattle.mapping.specs.Mapping.{processorsOf, processorCount, isMessage, pairs}
+use Rattle.sequential.specs.Sequential.{valueOf, ruleOf, valuesOf, fillOrder, Fills}
 use Rattle.planner.specs.declared.Planning.{Planning}
-use Rattle.planner.specs.Plan.{Tables, Plans}
+use Rattle.planner.specs.Plan.{planOrder, Tables, Plans}
+use Rattle.planner.specs.Listing.{listOrder, Lists}
+use Rattle.execution.specs.declared.Answer.{Answer}
+use Rattle.execution.specs.Rules.{Move, Layout}
+use Rattle.execution.specs.Run.{State}
+use Rattle.execution.specs.Words.{moveOrder}
+use Rattle.execution.specs.Entry.{numberOf, Makes}
 
 -- ---- the plan of an accepted nest
 
--- the number of iterations, and the index point of iteration k
+-- the number of iterations
 abbrev pub size : LoopNest → ℕ
 size s = lib.ListN.length (pointsOf s)
-
-abbrev pub point : LoopNest → ℕ → Vector
-point s k = getD (pointsOf s) k []
 
 -- the least P·j over all iterations
 abbrev pub leastProduct : LoopNest → ℤ
@@ -62,7 +67,7 @@ pub record Planned (s : LoopNest) (old : Tables) (p : Planning) (t : Tables) : T
   pub block-used : (b : ℕ) → b < p .blocks → (k : ℕ) × (k < size s) × (at (t .blocks) k ≡ b)
   pub block-order : (k : ℕ) → k < size s → (b : ℕ) → b < at (t .blocks) k → (j : ℕ) × (j < k) × (at (t .blocks) j ≡ b)
   -- a block is all iterations projected into one group
-  pub one-group : (j k : ℕ) → j < size s → k < size s → (at (t .blocks) j ≡ at (t .blocks) k) ↔ (getD (groupsOf s) j noGroup ≡ getD (groupsOf s) k noGroup)
+  pub one-group : (j k : ℕ) → j < size s → k < size s → (at (t .blocks) j ≡ at (t .blocks) k) ↔ (groupAt s j ≡ groupAt s k)
   -- no two iterations of a block are at one step
   pub one-a-step : (j k : ℕ) → j < size s → k < size s → at (t .blocks) j ≡ at (t .blocks) k → at (t .steps) j ≡ at (t .steps) k → j ≡ k
   -- every dependence leads to a later step
@@ -85,7 +90,28 @@ pub record SameText : Type 0 where
   pub writes-read : (text old new : Bytes) (r : Reading) (w : Writing) → Reads text r → r .refusal ≡ 0 → Writes (r .nest) old w new → lib.ListN.length text ≤ lib.ListN.length old
       → (w ≡ record { refusal = 0; length = lib.ListN.length text }) × (new ≡ text ++ drop (lib.ListN.length text) old)
 
+-- ---- refusals
+
+-- a call answers k exactly if k is what its order of refusals says: the number of the first whose condition is met, 0 where none is
+abbrev pub Exactly : Order → ℕ → Type 0
+Exactly order number = (k : ℕ) → (number ≡ k) ↔ Answered order k
+
+-- of every entry
+pub record Conditions : Type 0 where
+  pub check : (s : LoopNest) (r : ℕ) → Checks s r → Exactly (nestOrder s) r
+  pub inspect : (s : LoopNest) (r : Inspection) → Inspects s r → Exactly (nestOrder s) (r .refusal)
+  pub read : (text : Bytes) (r : Reading) → Reads text r → Exactly (readOrder text) (r .refusal)
+  pub write : (s : LoopNest) (old : Bytes) (r : Writing) (new : Bytes) → Writes s old r new → Exactly (writeOrder s (lib.ListN.length old)) (r .refusal)
+  pub locate : (s : LoopNest) (entries : ℕ) (i : ℤ) (r : Span) → Locates s entries i r → Exactly (rowOrder s entries i) (r .refusal)
+  pub row : (s : LoopNest) (table : List ℕ) (i : ℤ) (part : List ℕ) (k : ℕ) → Cuts s table i part k → Exactly (rowOrder s (lib.ListN.length table) i) k
+  pub fill : (s : LoopNest) (old : List ℕ) (r : ℕ) (new : List ℕ) → Fills s old r new → Exactly (fillOrder s (lib.ListN.length old)) r
+  pub plan : (s : LoopNest) (old : Tables) (r : Planning) (new : Tables) → Plans s old r new
+      → Exactly (planOrder s (lib.ListN.length (old .steps)) (lib.ListN.length (old .blocks)) (lib.ListN.length (old .processors)) (lib.ListN.length (old .values))) (r .refusal)
+  pub list : (text old : Bytes) (r : Writing) (new : Bytes) → Lists text old r new → Exactly (listOrder text (lib.ListN.length old)) (r .refusal)
+  pub move : (s : LoopNest) (L : Layout) (st : State ℕ) (mv : Move) (r : Answer) (st′ : State ℕ) → Makes s L st mv r st′ → Exactly (moveOrder s L st mv) (numberOf r)
+
 -- ---- the demand
-pub record Demand2 : Type 1 where
+pub record Demand2 : Type 0 where
   pub plan : (s : LoopNest) (old : Tables) (p : Planning) (t : Tables) → Plans s old p t → p .refusal ≡ 0 → Planned s old p t
+  pub refusals : Conditions
   pub text : SameText

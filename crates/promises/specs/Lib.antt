@@ -1,3 +1,4 @@
 -- The three demands (document 00) as three statements. Assumes nothing.
+pub mod Demand1
 pub mod Demand2
 pub mod Demand3

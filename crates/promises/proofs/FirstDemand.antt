@@ -1,0 +1,254 @@
+-- Demand 1, of every entry: what its promise says is one outcome, which is done or refused with a number of its list, and a refused one changes nothing.
+-- Assumes nothing.
+use mathlib.Core.Path.{_≡_, refl, sym, ap, ap₂, subst, _∙_}
+use mathlib.Core.Bool.{true, false}
+use mathlib.Core.List.{List, [], _∷_, _++_, List·Memᴰ}
+use mathlib.Core.Logic.{_≢_}
+use Prim.Native.Nat.{ℕ, _<_}
+use borrow.Author.Tests.{ne-eqb}
+use lib.IntN.{ℤ}
+use lib.ListN.{length, take, drop}
+use Rattle.nest.specs.declared.LoopNest.{LoopNest}
+use Rattle.nest.specs.declared.Inspection.{Inspection}
+use Rattle.nest.specs.Nest.{emptyNest}
+use Rattle.nest.specs.Points.{pointsOf}
+use Rattle.nest.specs.Refusals.{number, refusal, iterations, tableAfter, Order, Answered, numbersOf, nestOrder, nestNumbers, Checks, Inspects}
+use Rattle.nest.proofs.Answers.{answered-listed, nest-answered}
+use Rattle.nest.proofs.Entries.{same-table}
+use Rattle.nest_text.specs.Fields.{Bytes}
+use Rattle.nest_text.specs.declared.Reading.{Reading}
+use Rattle.nest_text.specs.declared.Writing.{Writing}
+use Rattle.nest_text.specs.Text.{textOf, readRefusal, readNest, writeRefusal, writtenLength, written, writeOrder, Puts, Reads, Writes}
+use Rattle.nest_text.specs.Form.{readOrder}
+use Rattle.nest_text.proofs.Answers.{write-answered, read-answered, read-numbers}
+use Rattle.rows.specs.declared.Span.{Span}
+use Rattle.rows.specs.Rows.{rowRefusal, rowOrder, spanOf, rowOf, Locates, Cuts}
+use Rattle.rows.proofs.SpanLaws.{span-refusal, refused-span}
+use Rattle.rows.proofs.PartLaws.{empty-iff}
+use Rattle.rows.proofs.Answers.{row-answered}
+use Rattle.sequential.specs.Sequential.{ruleOf, valuesOf, fillRefusal, fillOrder, filled, Fills}
+use Rattle.sequential.proofs.Answers.{fill-answered}
+use Rattle.partition.specs.Partition.{stepsOf, blocksOf}
+use Rattle.mapping.specs.Mapping.{processorsOf}
+use Rattle.planner.specs.declared.Planning.{Planning}
+use Rattle.planner.specs.Plan.{OneShort, planOrder, planAnswer, refusedWith, Tables, tablesRefusal, Plans}
+use Rattle.planner.specs.Listing.{planText, listOrder, Lists}
+use Rattle.planner.proofs.Answers.{plan-answered, list-answered}
+use Rattle.execution.specs.declared.Answer.{Answer}
+use Rattle.execution.specs.Rules.{Move, compute, deliver, Effect, refuse, iteration, message, answer, Layout}
+use Rattle.execution.specs.Run.{State, moveEffect, moveAnswer, moveAfter, after}
+use Rattle.execution.specs.Words.{moveOrder}
+use Rattle.execution.specs.Entry.{numberOf, answerOf, Makes}
+use Rattle.execution.proofs.Answers.{move-answered, compute-numbers, deliver-numbers}
+use Rattle.execution.proofs.EntryLaws.{number-answer}
+use Rattle.execution.proofs.Demand.{plan-number}
+use Rattle.promises.specs.Demand1.{textNumbers, moveNumbers, OneOutcome, Demand1}
+
+-- ---- numbers
+
+-- what an order answers is 0 or one of its numbers
+listed : (order : Order) (numbers : List ℕ) (k : ℕ) → numbersOf order ≡ numbers → Answered order k → List·Memᴰ k (0 ∷ numbers)
+listed order numbers k e a = subst (λ ns. List·Memᴰ k (0 ∷ ns)) e (answered-listed order k a)
+
+-- the numbers of the orders
+check-numbers : (s : LoopNest) → numbersOf (nestOrder s) ≡ nestNumbers
+unfolding number
+check-numbers s = refl
+
+buffer-numbers : (s : LoopNest) (Short : Type 0) → numbersOf (nestOrder s ++ ((14, Short) ∷ [])) ≡ nestNumbers ++ (14 ∷ [])
+unfolding number
+buffer-numbers s Short = refl
+
+row-numbers : (s : LoopNest) (entries : ℕ) (i : ℤ) → numbersOf (rowOrder s entries i) ≡ nestNumbers ++ (14 ∷ 19 ∷ [])
+unfolding number
+row-numbers s entries i = refl
+
+list-numbers : (text : Bytes) (room : ℕ) → numbersOf (listOrder text room) ≡ textNumbers ++ (14 ∷ [])
+unfolding number
+list-numbers text room = refl
+
+-- ---- the entries
+
+-- `check`
+check-one : (s : LoopNest) → OneOutcome (Checks s) (λ r. r) nestNumbers (λ r. Unit {0})
+check-one s = record {
+  outcome = refusal s;
+  promised = refl;
+  no-other = λ r e. e;
+  number-listed = listed (nestOrder s) nestNumbers (refusal s) (check-numbers s) (nest-answered s);
+  refused = λ h. tt;
+}
+
+-- `inspect`
+inspect-refused : (s : LoopNest) → refusal s ≢ 0 → iterations s ≡ 0
+unfolding iterations
+inspect-refused s h = rw (ne-eqb (refusal s) 0 h, iterations) refl
+
+inspect-one : (s : LoopNest) → OneOutcome (Inspects s) (λ r. r .refusal) nestNumbers (λ r. r .iterations ≡ 0)
+inspect-one s = record {
+  outcome = record { refusal = refusal s; iterations = iterations s };
+  promised = refl;
+  no-other = λ r e. e;
+  number-listed = listed (nestOrder s) nestNumbers (refusal s) (check-numbers s) (nest-answered s);
+  refused = inspect-refused s;
+}
+
+-- `read`
+read-refused : (text : Bytes) → readRefusal text ≢ 0 → readNest text ≡ emptyNest
+unfolding readNest
+read-refused text h = rw (ne-eqb (readRefusal text) 0 h, readNest) refl
+
+read-one : (text : Bytes) → OneOutcome (Reads text) (λ r. r .refusal) textNumbers (λ r. r .nest ≡ emptyNest)
+read-one text = record {
+  outcome = record { refusal = readRefusal text; nest = readNest text };
+  promised = refl;
+  no-other = λ r e. e;
+  number-listed = listed (readOrder text) textNumbers (readRefusal text) (read-numbers text) (read-answered text);
+  refused = read-refused text;
+}
+
+-- a call that writes bytes
+puts-one : (k : ℕ) (bytes old : Bytes) (numbers : List ℕ) → List·Memᴰ (writeRefusal k bytes (length old)) (0 ∷ numbers)
+    → OneOutcome (λ (o : Writing × Bytes). Puts k bytes old (o .0) (o .1)) (λ o. o .0 .refusal) numbers (λ o. (o .0 .length ≡ 0) × (o .1 ≡ old))
+puts-one k bytes old numbers m = record {
+  outcome = (record { refusal = writeRefusal k bytes (length old); length = writtenLength k bytes (length old) }, written k bytes old);
+  promised = (refl, refl);
+  no-other = λ o e. λ i. (e .0 i, e .1 i);
+  number-listed = m;
+  refused = λ h. (
+    unfold writtenLength in rw (ne-eqb (writeRefusal k bytes (length old)) 0 h, writtenLength) refl,
+    unfold written in same-table (writeRefusal k bytes (length old)) bytes old h,
+  );
+}
+
+-- `locate` and `row`
+row-listed : (s : LoopNest) (entries : ℕ) (i : ℤ) → List·Memᴰ (rowRefusal s entries i) (0 ∷ nestNumbers ++ (14 ∷ 19 ∷ []))
+row-listed s entries i = listed (rowOrder s entries i) (nestNumbers ++ (14 ∷ 19 ∷ [])) (rowRefusal s entries i) (row-numbers s entries i) (row-answered s entries i)
+
+locate-one : (s : LoopNest) (entries : ℕ) (i : ℤ) → OneOutcome (Locates s entries i) (λ r. r .refusal) (nestNumbers ++ (14 ∷ 19 ∷ [])) (λ r. (r .start ≡ 0) × (r .length ≡ 0))
+locate-one s entries i = record {
+  outcome = spanOf s entries i;
+  promised = refl;
+  no-other = λ r e. e;
+  number-listed = subst (λ k. List·Memᴰ k (0 ∷ nestNumbers ++ (14 ∷ 19 ∷ []))) (sym (span-refusal s entries i)) (row-listed s entries i);
+  refused = λ h.
+      let e = refused-span s entries i (rowRefusal s entries i) refl (λ z. h (span-refusal s entries i ∙ z)) in
+      (ap (λ (r : Span). r .start) e, ap (λ (r : Span). r .length) e);
+}
+
+row-one : (s : LoopNest) (table : List ℕ) (i : ℤ) → OneOutcome (λ (o : List ℕ × ℕ). Cuts s table i (o .0) (o .1)) (λ o. o .1) (nestNumbers ++ (14 ∷ 19 ∷ [])) (λ o. o .0 ≡ [])
+row-one s table i = record {
+  outcome = (rowOf s table i, rowRefusal s (length table) i);
+  promised = (refl, refl);
+  no-other = λ o e. λ j. (e .0 j, e .1 j);
+  number-listed = row-listed s (length table) i;
+  refused = λ h. empty-iff s table i (rowOf s table i) (rowRefusal s (length table) i) refl refl .1 h;
+}
+
+-- `fill`
+fill-one : (s : LoopNest) (old : List ℕ) → OneOutcome (λ (o : ℕ × List ℕ). Fills s old (o .0) (o .1)) (λ o. o .0) (nestNumbers ++ (14 ∷ [])) (λ o. o .1 ≡ old)
+fill-one s old = record {
+  outcome = (fillRefusal s (length old), filled s old);
+  promised = (refl, refl);
+  no-other = λ o e. λ i. (e .0 i, e .1 i);
+  number-listed = listed (fillOrder s (length old)) (nestNumbers ++ (14 ∷ [])) (fillRefusal s (length old)) (buffer-numbers s (length old < length (pointsOf s))) (fill-answered s (length old));
+  refused = λ h. unfold filled in same-table (fillRefusal s (length old)) (valuesOf s) old h;
+}
+
+-- `plan`
+plan-refused : (s : LoopNest) (k : ℕ) → k ≢ 0 → planAnswer s k ≡ refusedWith k
+unfolding planAnswer
+plan-refused s k h = rw (planAnswer, ne-eqb k 0 h) refl
+
+module _ (s : LoopNest) (old : Tables) where
+  -- what is answered, and the tables that are left
+  abbrev planned : Planning
+  planned = planAnswer s (tablesRefusal s old)
+
+  abbrev left : Tables
+  left = record {
+    steps = tableAfter (planned .refusal) (stepsOf s) (old .steps);
+    blocks = tableAfter (planned .refusal) (blocksOf s) (old .blocks);
+    processors = tableAfter (planned .refusal) (processorsOf s) (old .processors);
+    values = tableAfter (planned .refusal) (valuesOf s) (old .values);
+  }
+
+  -- no other is promised
+  planned-alone : (o : Planning × Tables) → Plans s old (o .0) (o .1) → o ≡ (planned, left)
+  planned-alone (r, t) e =
+      let n = ap (λ (x : Planning). x .refusal) (e .0) in
+      let a = e .1 .0 ∙ ap (λ k. tableAfter k (stepsOf s) (old .steps)) n in
+      let b = e .1 .1 .0 ∙ ap (λ k. tableAfter k (blocksOf s) (old .blocks)) n in
+      let c = e .1 .1 .1 .0 ∙ ap (λ k. tableAfter k (processorsOf s) (old .processors)) n in
+      let d = e .1 .1 .1 .1 ∙ ap (λ k. tableAfter k (valuesOf s) (old .values)) n in
+      λ i. (e .0 i, record { steps = a i; blocks = b i; processors = c i; values = d i })
+
+  plan-one : OneOutcome (λ (o : Planning × Tables). Plans s old (o .0) (o .1)) (λ o. o .0 .refusal) (nestNumbers ++ (14 ∷ []))
+      (λ o. (o .0 .iterations ≡ 0) × (o .0 .steps ≡ 0) × (o .0 .blocks ≡ 0) × (o .0 .processors ≡ 0) × (o .0 .messages ≡ 0) × (o .1 ≡ old))
+  plan-one = record {
+    outcome = (planned, left);
+    promised = (refl, (refl, (refl, (refl, refl))));
+    no-other = planned-alone;
+    number-listed =
+        let t = old in
+        listed (planOrder s (length (t .steps)) (length (t .blocks)) (length (t .processors)) (length (t .values))) (nestNumbers ++ (14 ∷ [])) (planned .refusal) (buffer-numbers s (OneShort (length (pointsOf s)) (length (t .steps)) (length (t .blocks)) (length (t .processors)) (length (t .values))))
+        (subst (Answered (planOrder s (length (t .steps)) (length (t .blocks)) (length (t .processors)) (length (t .values)))) (sym (plan-number s (tablesRefusal s old)))
+        (plan-answered s (length (t .steps)) (length (t .blocks)) (length (t .processors)) (length (t .values))));
+    refused = λ h.
+        let e = plan-refused s (tablesRefusal s old) (λ z. h (plan-number s (tablesRefusal s old) ∙ z)) in
+        let a = same-table (planned .refusal) (stepsOf s) (old .steps) h in
+        let b = same-table (planned .refusal) (blocksOf s) (old .blocks) h in
+        let c = same-table (planned .refusal) (processorsOf s) (old .processors) h in
+        let d = same-table (planned .refusal) (valuesOf s) (old .values) h in (
+          ap (λ (x : Planning). x .iterations) e,
+          ap (λ (x : Planning). x .steps) e,
+          ap (λ (x : Planning). x .blocks) e,
+          ap (λ (x : Planning). x .processors) e,
+          ap (λ (x : Planning). x .messages) e,
+          λ i. record { steps = a i; blocks = b i; processors = c i; values = d i },
+        );
+  }
+
+-- `make_move`
+move-listed : (s : LoopNest) (L : Layout) (st : State ℕ) (mv : Move) → List·Memᴰ (moveAnswer s L st mv) (0 ∷ moveNumbers mv)
+move-listed s L st (compute p) =
+    listed (moveOrder s L st (compute p)) (moveNumbers (compute p)) (moveAnswer s L st (compute p)) (compute-numbers s L st p) (move-answered s L st (compute p))
+move-listed s L st (deliver k i) =
+    listed (moveOrder s L st (deliver k i)) (moveNumbers (deliver k i)) (moveAnswer s L st (deliver k i)) (deliver-numbers s L st k i) (move-answered s L st (deliver k i))
+
+module _ (s : LoopNest) (L : Layout) (st : State ℕ) (mv : Move) where
+  -- a refused effect changes nothing
+  kept : (x : Effect) → answer x ≢ 0 → after (ruleOf s) s st x ≡ st
+  kept (refuse a) h = refl
+  kept (iteration k) h = absurd (h refl)
+  kept (message k i) h = absurd (h refl)
+
+  move-one : OneOutcome (λ (o : Answer × State ℕ). Makes s L st mv (o .0) (o .1)) (λ o. numberOf (o .0)) (moveNumbers mv) (λ o. o .1 ≡ st)
+  move-one =
+      let x = moveEffect s L st mv in
+      let n = number-answer s (st .values) x in
+      record {
+        outcome = (answerOf s (st .values) x, moveAfter (ruleOf s) s L st mv);
+        promised = (refl, (n, refl));
+        no-other = λ o e. λ i. (e .0 i, e .1 .1 i);
+        number-listed = subst (λ k. List·Memᴰ k (0 ∷ moveNumbers mv)) (sym n) (move-listed s L st mv);
+        refused = λ h. kept x (λ z. h (n ∙ z));
+      }
+
+-- ---- demand 1
+pub demand-1 : Demand1
+demand-1 = record {
+  check = check-one;
+  inspect = inspect-one;
+  read = read-one;
+  write = λ s old. puts-one (refusal s) (textOf s) old (nestNumbers ++ (14 ∷ []))
+      (listed (writeOrder s (length old)) (nestNumbers ++ (14 ∷ [])) (writeRefusal (refusal s) (textOf s) (length old)) (buffer-numbers s (length old < length (textOf s))) (write-answered s (length old)));
+  locate = locate-one;
+  row = row-one;
+  row-empty = λ s table i part k c. empty-iff s table i part k (c .0) (c .1);
+  fill = fill-one;
+  plan = plan-one;
+  list = λ text old. puts-one (readRefusal text) (planText (readNest text)) old (textNumbers ++ (14 ∷ []))
+      (listed (listOrder text (length old)) (textNumbers ++ (14 ∷ [])) (writeRefusal (readRefusal text) (planText (readNest text)) (length old)) (list-numbers text (length old)) (list-answered text (length old)));
+  move = move-one;
+}

@@ -1,0 +1,70 @@
+-- Demand 1 (document 00): whoever calls, with any nest, table or move, gets a plan, a table, a move done or one refusal from the list; a refusal changes no lent byte. It is said of every
+-- entry, by what its contract promises.
+-- Assumes nothing.
+use mathlib.Core.Path.{_≡_}
+use mathlib.Core.List.{List, [], _∷_, _++_, List·Memᴰ}
+use mathlib.Core.Logic.{_≢_, _↔_}
+use Prim.Native.Nat.{ℕ}
+use lib.IntN.{ℤ}
+use Rattle.nest.specs.declared.LoopNest.{LoopNest}
+use Rattle.nest.specs.declared.Inspection.{Inspection}
+use Rattle.nest.specs.Nest.{emptyNest}
+use Rattle.nest.specs.Refusals.{nestNumbers, Checks, Inspects}
+use Rattle.nest_text.specs.Fields.{Bytes}
+use Rattle.nest_text.specs.declared.Reading.{Reading}
+use Rattle.nest_text.specs.declared.Writing.{Writing}
+use Rattle.nest_text.specs.Text.{Reads, Writes}
+use Rattle.rows.specs.declared.Span.{Span}
+use Rattle.rows.specs.Rows.{Locates, Cuts}
+use Rattle.sequential.specs.Sequential.{Fills}
+use Rattle.planner.specs.declared.Planning.{Planning}
+use Rattle.planner.specs.Plan.{Tables, Plans}
+use Rattle.planner.specs.Listing.{Lists}
+use Rattle.execution.specs.declared.Answer.{Answer}
+use Rattle.execution.specs.Rules.{Move, compute, deliver, Layout}
+use Rattle.execution.specs.Run.{State}
+use Rattle.execution.specs.Entry.{numberOf, Makes}
+
+-- ---- the refusals of document 01 that each call has, by their numbers, in the order in which they are tested
+
+-- of a text: line 1's form, then 2, 3, 4; the form of the remaining lines; then 5 to 13
+abbrev pub textNumbers : List ℕ
+textNumbers = 1 ∷ 2 ∷ 3 ∷ 4 ∷ 1 ∷ 5 ∷ 6 ∷ 7 ∷ 8 ∷ 9 ∷ 10 ∷ 11 ∷ 12 ∷ 13 ∷ []
+
+-- of a move: 2 to 14, then 18, 17, 15 or 18, 16
+abbrev pub moveNumbers : Move → List ℕ
+moveNumbers (compute p) = nestNumbers ++ (14 ∷ 18 ∷ 17 ∷ 15 ∷ [])
+moveNumbers (deliver k i) = nestNumbers ++ (14 ∷ 18 ∷ 16 ∷ [])
+
+-- ---- one outcome
+
+-- A call promises P of its outcome, which is what it answers and what it leaves in its buffers; `number` is the number answered.
+pub record OneOutcome {A : Type 0} (P : A → Type 0) (number : A → ℕ) (listed : List ℕ) (Untouched : A → Type 0) : Type 0 where
+  -- there is an outcome that the promise allows, and no other
+  pub outcome : A
+  pub promised : P outcome
+  pub no-other : (a : A) → P a → a ≡ outcome
+  -- the number is 0, or one of the refusals listed
+  pub number-listed : List·Memᴰ (number outcome) (0 ∷ listed)
+  -- a refusal answers nothing beside its number and leaves every buffer as it was
+  pub refused : number outcome ≢ 0 → Untouched outcome
+
+-- ---- the demand
+pub record Demand1 : Type 0 where
+  pub check : (s : LoopNest) → OneOutcome (Checks s) (λ r. r) nestNumbers (λ r. Unit {0})
+  pub inspect : (s : LoopNest) → OneOutcome (Inspects s) (λ r. r .refusal) nestNumbers (λ r. r .iterations ≡ 0)
+  pub read : (text : Bytes) → OneOutcome (Reads text) (λ r. r .refusal) textNumbers (λ r. r .nest ≡ emptyNest)
+  pub write : (s : LoopNest) (old : Bytes)
+      → OneOutcome (λ (o : Writing × Bytes). Writes s old (o .0) (o .1)) (λ o. o .0 .refusal) (nestNumbers ++ (14 ∷ [])) (λ o. (o .0 .length ≡ 0) × (o .1 ≡ old))
+  pub locate : (s : LoopNest) (entries : ℕ) (i : ℤ) → OneOutcome (Locates s entries i) (λ r. r .refusal) (nestNumbers ++ (14 ∷ 19 ∷ [])) (λ r. (r .start ≡ 0) × (r .length ≡ 0))
+  pub row : (s : LoopNest) (table : List ℕ) (i : ℤ) → OneOutcome (λ (o : List ℕ × ℕ). Cuts s table i (o .0) (o .1)) (λ o. o .1) (nestNumbers ++ (14 ∷ 19 ∷ [])) (λ o. o .0 ≡ [])
+  -- a part is empty exactly if the call is refused
+  pub row-empty : (s : LoopNest) (table : List ℕ) (i : ℤ) (part : List ℕ) (k : ℕ) → Cuts s table i part k → (part ≡ []) ↔ (k ≢ 0)
+  pub fill : (s : LoopNest) (old : List ℕ) → OneOutcome (λ (o : ℕ × List ℕ). Fills s old (o .0) (o .1)) (λ o. o .0) (nestNumbers ++ (14 ∷ [])) (λ o. o .1 ≡ old)
+  pub plan : (s : LoopNest) (old : Tables)
+      → OneOutcome (λ (o : Planning × Tables). Plans s old (o .0) (o .1)) (λ o. o .0 .refusal) (nestNumbers ++ (14 ∷ []))
+      (λ o. (o .0 .iterations ≡ 0) × (o .0 .steps ≡ 0) × (o .0 .blocks ≡ 0) × (o .0 .processors ≡ 0) × (o .0 .messages ≡ 0) × (o .1 ≡ old))
+  pub list : (text old : Bytes)
+      → OneOutcome (λ (o : Writing × Bytes). Lists text old (o .0) (o .1)) (λ o. o .0 .refusal) (textNumbers ++ (14 ∷ [])) (λ o. (o .0 .length ≡ 0) × (o .1 ≡ old))
+  pub move : (s : LoopNest) (L : Layout) (st : State ℕ) (mv : Move)
+      → OneOutcome (λ (o : Answer × State ℕ). Makes s L st mv (o .0) (o .1)) (λ o. numberOf (o .0)) (moveNumbers mv) (λ o. o .1 ≡ st)
