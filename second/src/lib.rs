@@ -11,6 +11,7 @@
 //! boundary value and weights, "Card" about processors, "Card message" about messages, "Words from
 //! the rack" about the numbers that calls answer.
 
+pub mod feeding;
 pub mod generate;
 pub mod linear;
 pub mod listing;

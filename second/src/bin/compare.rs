@@ -2,19 +2,21 @@
 //!
 //!     compare PLAN_PROGRAM COUNT SEED
 //!
-//! Each of COUNT texts is given to PLAN_PROGRAM on standard input; what it prints must be the second
-//! planner's listing, byte for byte. The first texts that differ are saved in the directory
+//! Each of COUNT texts is given to PLAN_PROGRAM on standard input, some in pieces or byte by byte, and
+//! some listings are taken late; what it prints must be the second planner's listing, byte for byte. The
+//! first texts that differ are saved in the directory
 //! `differences` beside the one that this program stands in (target/differences). The last line says
 //! 'N passed, M failed'; the exit status is 0 only if all COUNT texts passed.
 
 use std::collections::BTreeMap;
-use std::io::{self, Read, Write};
+use std::io;
 use std::path::{Path, PathBuf};
-use std::process::{Command, ExitCode, Stdio};
+use std::process::ExitCode;
 use std::sync::atomic::{AtomicU64, Ordering};
 use std::sync::Mutex;
 use std::{env, fs, thread};
 
+use second::feeding::{self, Manner};
 use second::generate::{self, Case};
 use second::{listing, text};
 
@@ -35,6 +37,8 @@ struct Outcome {
     index: u64,
     family: &'static str,
     kind: String,
+    /// How it was given and its listing taken.
+    manner: &'static str,
     /// What the second planner makes of the text, for the summary.
     answer: String,
     difference: Option<Difference>,
@@ -110,7 +114,8 @@ fn compare_one(request: &Request, index: u64) -> io::Result<Outcome> {
         Ok(nest) => format!("accepted, depth {}", nest.depth),
         Err(number) => format!("refused, number {number:2}"),
     };
-    let (printed, ending) = run_program(&request.program, &text)?;
+    let manner = Manner::of(request.seed, index, text.len(), expected.len());
+    let (printed, ending) = feeding::run(&request.program, &text, &manner)?;
     let same = printed == expected && ending.is_none();
     let difference = (!same).then(|| Difference {
         text,
@@ -118,27 +123,7 @@ fn compare_one(request: &Request, index: u64) -> io::Result<Outcome> {
         printed,
         ending: ending.unwrap_or_else(|| "another listing".into()),
     });
-    Ok(Outcome { index, family, kind, answer, difference })
-}
-
-/// Runs the program with a text on standard input. Answers what it printed, and how it ended if it
-/// did not end by itself. Its exit status is not judged: document 01 says nothing of it.
-fn run_program(program: &str, text: &[u8]) -> io::Result<(Vec<u8>, Option<String>)> {
-    let mut child = Command::new(program).stdin(Stdio::piped()).stdout(Stdio::piped()).spawn()?;
-    let mut input = child.stdin.take().expect("a piped standard input");
-    let mut output = child.stdout.take().expect("a piped standard output");
-    let mut printed = Vec::new();
-    let was_read = thread::scope(|scope| {
-        // A program may stop reading early, so a failure to write is none of the comparison's.
-        scope.spawn(move || {
-            let _ = input.write_all(text);
-        });
-        output.read_to_end(&mut printed)
-    });
-    let status = child.wait()?;
-    was_read?;
-    let ending = status.code().is_none().then(|| format!("ended by {status}"));
-    Ok((printed, ending))
+    Ok(Outcome { index, family, kind, manner: manner.name(), answer, difference })
 }
 
 /// Prints the summary and saves the first differences.
@@ -146,6 +131,7 @@ fn report(request: &Request, outcomes: &[Outcome]) -> ExitCode {
     let differing: Vec<&Outcome> =
         outcomes.iter().filter(|outcome| outcome.difference.is_some()).collect();
     print_counts("By what the text was made as:", outcomes, |outcome| outcome.family);
+    print_counts("By how the text was given:", outcomes, |outcome| outcome.manner);
     print_counts("By the second planner's answer:", outcomes, |outcome| &outcome.answer);
     if let Err(error) = save_differences(&differing) {
         println!("Differences could not be saved: {error}");
@@ -197,8 +183,8 @@ fn save_differences(differing: &[&Outcome]) -> io::Result<()> {
         fs::write(file("text"), &difference.text)?;
         fs::write(file("expected"), &difference.expected)?;
         fs::write(file("printed"), &difference.printed)?;
-        let Outcome { index, family, kind, .. } = outcome;
-        println!("differs: {index:06} ({family}: {kind}; {})", difference.ending);
+        let Outcome { index, family, kind, manner, .. } = outcome;
+        println!("differs: {index:06} ({family}: {kind}; {manner}; {})", difference.ending);
     }
     Ok(())
 }
