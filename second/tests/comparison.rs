@@ -49,7 +49,7 @@ fn a_program_that_reads_once_differs() {
     assert_eq!(counts(&summary, "whole").1, 0, "{summary}");
     for manner in ["in pieces", "byte by byte"] {
         let (all, differing) = counts(&summary, manner);
-        assert!(all >= 5 && differing >= 2, "{summary}");
+        assert!(all >= 5 && differing >= 1, "{summary}");
     }
 }
 

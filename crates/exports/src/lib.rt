@@ -117,8 +117,8 @@ pub extern "C" fn rowlock_list(text: &[u8], out: &mut [u8], bytes: &mut usize) -
     listing.refusal
 }
 
-// Makes a move on the tables of a plan and on a state, all of any content. Kind 1 is a compute on processor `first`, kind 2 a delivery for rank `first` along dependence
-// number `second`; any other kind is refused with 18.
+// Makes a move on the tables of a plan and on a state, all of any content. Kind 1 is a compute on processor `first`, kind 2 a delivery for rank `first`
+// along dependence number `second`; any other kind is refused with 18.
 // Answers 0, or the number of the refusal, 2 to 18, with no buffer of the state changed. `made` has the rank and the value of the iteration computed, or the rank and the dependence
 // number of the message delivered; zeros where refused.
 #[no_mangle]

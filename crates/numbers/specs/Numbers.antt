@@ -66,7 +66,7 @@ deliverKind = 2
 abbrev pub noProcessor : ℕ
 noProcessor = 2 ^ maxCube
 
--- the move that is asked for: a compute on a processor, or a delivery for a rank along a dependence; any other kind asks for a compute on a processor that is not there
+-- the move that is asked for: a compute on a processor, or a delivery for a rank along a dependence; any other kind is a compute on a processor that is not there
 unfoldable pub moveIn : ℕ → ℕ → ℕ → Move
 moveIn kind a b =
     elim (eqb kind computeKind) [
