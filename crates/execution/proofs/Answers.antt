@@ -11,11 +11,9 @@ use lib.ListN.{length}
 use Rattle.integers.specs.Lists.{split}
 use Rattle.nest.specs.declared.LoopNest.{LoopNest}
 use Rattle.nest.specs.Points.{pointsOf}
-use Rattle.nest.specs.Refusals.{refusal, orElse, shortBuffer, Answered, numbersOf, FromOne, nestNumbers}
+use Rattle.nest.specs.Refusals.{refusal, orElse, shortBuffer, noRoom, Answered, numbersOf, FromOne, nestNumbers}
 use Rattle.nest.proofs.Entries.{orElse-first, orElse-second, orElse-assoc}
-use Rattle.nest.proofs.Answers.{answered-append, short-answered, either-answered, call-one, call-numbers, call-answered}
-use Rattle.planner.specs.Plan.{noRoom}
-use Rattle.planner.proofs.Answers.{room-answered}
+use Rattle.nest.proofs.Answers.{answered-append, short-answered, either-answered, room-answered, call-one, call-numbers, call-answered}
 use Rattle.execution.specs.Rules.{Move, compute, deliver, Effect, refuse, answer, Layout, effect}
 use Rattle.execution.specs.Run.{State, stateView, moveRefusal, stateRefusal, moveEffect, moveAnswer}
 use Rattle.execution.specs.Words.{Says, ruleOrder, BufferShort, moveOrder}

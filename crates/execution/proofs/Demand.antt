@@ -11,16 +11,16 @@ use lib.ListN.{length, getD, drop, length-append, List·getD-append}
 use Rattle.nest.specs.declared.LoopNest.{LoopNest}
 use Rattle.nest.specs.Nest.{countOf}
 use Rattle.nest.specs.Points.{pointsOf}
-use Rattle.nest.specs.Refusals.{refusal}
+use Rattle.nest.specs.Refusals.{refusal, noRoom}
 use Rattle.nest.proofs.Entries.{orElse-zero, made-table}
+use Rattle.nest.proofs.PointLaws.{source-smaller}
 use Rattle.partition.specs.Partition.{stepsOf}
-use Rattle.partition.proofs.Theorems.{later-step, steps-length}
+use Rattle.partition.proofs.Theorems.{later-step-source, steps-length}
 use Rattle.mapping.specs.Mapping.{processorsOf, isMessage, messageCount}
 use Rattle.mapping.proofs.Theorems.{processors-length, processors-below}
 use Rattle.sequential.specs.Sequential.{Rule, sequential, ruleOf, valuesOf}
-use Rattle.sequential.proofs.LoopLaws.{is-source}
 use Rattle.planner.specs.declared.Planning.{Planning}
-use Rattle.planner.specs.Plan.{noRoom, planRefusal, planAnswer, Tables, tablesRefusal, Plans}
+use Rattle.planner.specs.Plan.{planRefusal, planAnswer, Tables, tablesRefusal, Plans}
 use Rattle.execution.specs.Rules.{Move, Effect, refuse, iteration, message, answer, Layout, effect}
 use Rattle.execution.specs.Machine.{Machine, freshMachine, machineAfter, machineView, machineAnswer, machineNext, layoutOf, referenceRun, referenceAnswers, computedCount, deliveredCount, messagesOn, allowedCount}
 use Rattle.execution.specs.Run.{State, moveEffect, moveAnswer, after, run, answers}
@@ -37,16 +37,13 @@ pub causal : (s : LoopNest) → refusal s ≡ 0 → Causal s (layoutOf s)
 causal s ok = record {
   steps-each = steps-length s ok;
   processors-each = processors-length s;
-  sooner = λ k i j hk hi q.
-      let r = is-source s ok k i j hk hi q in
-      let l = r .earlier in
-      later-step s ok i hi j k (omega arith) hk (r .point);
+  sooner = λ k i j hk hi q. later-step-source s ok i hi j k hk q;
   housed = λ k hk. processors-below s k hk;
 }
 
 -- sources of an accepted nest have smaller ranks
 pub ordered : (s : LoopNest) (M : Layout) → refusal s ≡ 0 → Causal s M → Ordered s M
-ordered s M ok C = record { earlier = λ k i j hk hi q. is-source s ok k i j hk hi q .earlier; sooner = C .sooner; housed = C .housed }
+ordered s M ok C = record { earlier = source-smaller s ok; sooner = C .sooner; housed = C .housed }
 
 -- lent tables that begin with a layout's agree with it
 pub planned-same : (s : LoopNest) (M L : Layout) → Causal s M → Planned M L → SameLayout s L M

@@ -12,13 +12,11 @@ use lib.ListN.{length, getD, set}
 use Rattle.nest.specs.declared.LoopNest.{LoopNest}
 use Rattle.nest.specs.Nest.{toℕ, countOf}
 use Rattle.nest.specs.Points.{pointsOf}
-use Rattle.nest.specs.Refusals.{refusal, orElse, shortBuffer}
+use Rattle.nest.specs.Refusals.{refusal, orElse, shortBuffer, noRoom}
 use Rattle.nest.specs.Sources.{sourceRank}
-use Rattle.nest.proofs.Entries.{orElse-first, orElse-second, orElse-zero}
+use Rattle.nest.proofs.Entries.{orElse-first, orElse-second, orElse-zero, enough, all-enough}
 use Rattle.mapping.specs.Mapping.{isMessage}
 use Rattle.sequential.specs.Sequential.{ruleOf, valueOf}
-use Rattle.planner.specs.Plan.{noRoom}
-use Rattle.planner.proofs.PlanLaws.{enough, all-enough}
 use Rattle.execution.specs.declared.Answer.{Answer}
 use Rattle.execution.specs.declared.Answer.the-variants.{Computed, Delivered, Refused}
 use Rattle.execution.specs.Rules.{every, Move, compute, deliver, Effect, refuse, iteration, message, answer, Layout, View, there, sourceDone, ready, taking, effect}

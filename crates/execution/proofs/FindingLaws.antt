@@ -16,7 +16,7 @@ use Rattle.nest.specs.Nest.{part, padded, depthOf, maxDepth}
 use Rattle.nest.specs.Points.{pointsOf, rank, source}
 use Rattle.nest.specs.Refusals.{dependence}
 use Rattle.nest.specs.Sources.{sourceRank}
-use Rattle.sequential.proofs.SourceLaws.{source-found, source-none}
+use Rattle.nest.proofs.PointLaws.{source-found, source-none}
 use Rattle.execution.specs.Rules.{every, better, least, View, stepIn, waits, there, sourceDone, ready}
 use Rattle.execution.specs.Run.{bit}
 use Rattle.execution.specs.Entry.{viewIn, rankOr}
@@ -112,7 +112,7 @@ module _ (steps processors done : List ℕ) (n p : ℕ) where
   pub taken-some : (k : ℕ) → k ≡ rankOr n (takenOf n) → k < n → takenOf n ≡ some k
   taken-some k e h = opt (takenOf n) (λ q. absurd (let z : k ≡ n = e ∙ ap (rankOr n) q in omega arith)) (λ j q. let z : j ≡ k = sym (e ∙ ap (rankOr n) q) in q ∙ ap some z)
 
--- ---- sources, by the rank j that `sequential::source_at` answers at the iteration's point
+-- ---- sources, by the rank j that `nest::source_at` answers at the iteration's point
 
 module _ (s : LoopNest) (k i j : ℕ) (point : List ℤ) (n : ℕ) (count : n ≡ length (pointsOf s)) (h : k < n) (at : point ≡ padded maxDepth (getD (pointsOf s) k []))
     (e : j ≡ rank (pointsOf s) (source (part point 0 (depthOf s)) (dependence s i))) (processors done delivered : List ℕ) where

@@ -10,13 +10,12 @@ use lib.ListN.{length}
 use Rattle.integers.specs.Lists.{split}
 use Rattle.nest.specs.declared.LoopNest.{LoopNest}
 use Rattle.nest.specs.Nest.{toℕ, cleared}
-use Rattle.nest.specs.Refusals.{refusal, orElse, shortBuffer}
+use Rattle.nest.specs.Refusals.{refusal, orElse, shortBuffer, noRoom}
 use Rattle.nest.proofs.Entries.{orElse-first}
 use Rattle.nest.proofs.Places.{SameParts, same-points, same-source, same-refusal, cleared-refusal, accepted-same}
 use Rattle.mapping.specs.Mapping.{crosses, isMessage}
 use Rattle.sequential.specs.Sequential.{Rule}
 use Rattle.sequential.proofs.Ignored.{same-value}
-use Rattle.planner.specs.Plan.{noRoom}
 use Rattle.execution.specs.Rules.{Move, compute, deliver, Effect, refuse, iteration, message, Layout, View, every, least, waits, stepIn, there, sourceDone, taking, delivering, effect}
 use Rattle.execution.specs.Run.{State, stateView, withValue, moveRefusal, stateRefusal, moveEffect, after, moveAfter}
 use Rattle.execution.proofs.Answers.{move-refused}

@@ -15,14 +15,12 @@ use Rattle.integers.specs.Lists.{tab-same, split, clash}
 use Rattle.nest.specs.declared.LoopNest.{LoopNest}
 use Rattle.nest.specs.Nest.{countOf}
 use Rattle.nest.specs.Points.{pointsOf}
-use Rattle.nest.specs.Refusals.{refusal, orElse, shortBuffer}
+use Rattle.nest.specs.Refusals.{refusal, orElse, shortBuffer, noRoom}
 use Rattle.nest.specs.Sources.{sourceRank}
-use Rattle.nest.proofs.Entries.{orElse-second, long-enough}
+use Rattle.nest.proofs.Entries.{orElse-second, long-enough, none-short}
 use Rattle.mapping.specs.Keys.{oneIf}
 use Rattle.sequential.specs.Sequential.{Rule, sourceValue, valueOf, sequential}
 use Rattle.sequential.proofs.LoopLaws.{loop-length, loop-value}
-use Rattle.planner.specs.Plan.{noRoom}
-use Rattle.planner.proofs.PlanLaws.{long-here}
 use Rattle.execution.specs.Rules.{Move, Effect, refuse, iteration, message, answer, Layout, effect}
 use Rattle.execution.specs.Machine.{Machine, freshMachine, machineAfter, machineView, machineNext, machineRun, machineAnswers}
 use Rattle.execution.specs.Run.{State, bit, stateView, moveRefusal, stateRefusal, moveEffect, moveAnswer, after, moveAfter, run, answers}
@@ -69,13 +67,7 @@ pub no-refusal : (s : LoopNest) → refusal s ≡ 0 → (a b c d e : ℕ) → le
 unfolding moveRefusal
 no-refusal s ok a b c d e ha hb hc hd he =
     let n = length (pointsOf s) in
-    orElse-second (refusal s) (orElse (noRoom n a b c d) (shortBuffer n e)) ok ∙ orElse-second (noRoom n a b c d) (shortBuffer n e) room ∙ long-enough n e he
-  where
-    room : noRoom (length (pointsOf s)) a b c d ≡ 0
-    room =
-        let n = length (pointsOf s) in
-        long-here n a (orElse (shortBuffer n b) (orElse (shortBuffer n c) (shortBuffer n d))) ha ∙ long-here n b (orElse (shortBuffer n c) (shortBuffer n d)) hb
-        ∙ long-here n c (shortBuffer n d) hc ∙ long-enough n d hd
+    orElse-second (refusal s) (orElse (noRoom n a b c d) (shortBuffer n e)) ok ∙ orElse-second (noRoom n a b c d) (shortBuffer n e) (none-short n a b c d ha hb hc hd) ∙ long-enough n e he
 
 -- so the rules decide
 pub move-rules : {Val : Type 0} (s : LoopNest) (L : Layout) (st : State Val) (mv : Move) → stateRefusal s L st ≡ 0 → moveEffect s L st mv ≡ effect s (stateView L st) mv

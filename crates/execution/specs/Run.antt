@@ -8,9 +8,8 @@ use lib.Dec.{eqb}
 use lib.ListN.{length, getD, set}
 use Rattle.nest.specs.declared.LoopNest.{LoopNest}
 use Rattle.nest.specs.Points.{pointsOf}
-use Rattle.nest.specs.Refusals.{refusal, orElse, shortBuffer}
+use Rattle.nest.specs.Refusals.{refusal, orElse, shortBuffer, noRoom}
 use Rattle.sequential.specs.Sequential.{Rule, valueOf}
-use Rattle.planner.specs.Plan.{noRoom}
 use Rattle.execution.specs.Rules.{Move, Effect, refuse, iteration, message, answer, Layout, View, effect}
 
 -- for each iteration a value, a done byte (0 is not done) and a delivered byte

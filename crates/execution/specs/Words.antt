@@ -10,10 +10,9 @@ use lib.ListN.{length}
 use Rattle.nest.specs.declared.LoopNest.{LoopNest}
 use Rattle.nest.specs.Nest.{toℕ, countOf}
 use Rattle.nest.specs.Points.{pointsOf}
-use Rattle.nest.specs.Refusals.{Order, nestOrder}
+use Rattle.nest.specs.Refusals.{OneShort, Order, nestOrder}
 use Rattle.nest.specs.Sources.{sourceRank}
 use Rattle.mapping.specs.Mapping.{Message}
-use Rattle.planner.specs.Plan.{OneShort}
 use Rattle.execution.specs.Rules.{Move, compute, deliver, Effect, refuse, iteration, message, Layout, View, stepIn, processorIn}
 use Rattle.execution.specs.Run.{State, stateView}
 use Rattle.execution.specs.Machine.{Machine, machineAfter, machineView}

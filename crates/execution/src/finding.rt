@@ -92,7 +92,7 @@ fn source_there(
     requires { ⌜ (n ≤ length (now processors)) × (n ≤ length (now done)) × (n ≤ length (now delivered)) ⌝ }
     ensures { λ r. ⌜ r ≡ there (viewIn [] (now (processors .entry)) (now (done .entry)) (now (delivered .entry))) p k i (sourceRank s k i) ⌝ }
 {
-    let j = sequential::source_at(s, point, i);
+    let j = nest::source_at(s, point, i);
     if n <= j {
         return true;
     }
@@ -141,7 +141,7 @@ pub fn is_ready(
     ensures { λ r. ⌜ r ≡ ready s (viewIn [] (now (processors .entry)) (now (done .entry)) (now (delivered .entry))) k i ⌝ }
 {
     let point = nest::point_of(s, k);
-    let j = sequential::source_at(s, point, i);
+    let j = nest::source_at(s, point, i);
     if n <= j {
         return false;
     }

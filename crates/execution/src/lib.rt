@@ -10,9 +10,8 @@ ghost use Prim.Native.Nat.{ℕ, _≤_, _^_};
 ghost use lib.ListN.{length};
 ghost use Rattle.nest.specs.Nest.{toℕ, maxCube};
 ghost use Rattle.nest.specs.Points.{pointsOf};
-ghost use Rattle.nest.specs.Refusals.{refusal, orElse, shortBuffer};
+ghost use Rattle.nest.specs.Refusals.{refusal, orElse, shortBuffer, noRoom};
 ghost use Rattle.sequential.specs.Sequential.{ruleOf};
-ghost use Rattle.planner.specs.Plan.{noRoom};
 ghost use Rattle.execution.specs.Rules.{compute, deliver, effect};
 ghost use Rattle.execution.specs.Run.{after, moveEffect, moveAnswer, moveAfter};
 ghost use Rattle.execution.specs.Entry.{layoutIn, stateIn, viewIn, moveOf, numberOf, answerOf, Makes};
@@ -76,7 +75,7 @@ fn check_buffers(
 ) -> u8
     ensures { λ r. ⌜ r ≡ orElse (noRoom n steps processors values done) (shortBuffer n delivered) ⌝ }
 {
-    let room = planner::check_room(n, steps, processors, values, done);
+    let room = nest::check_room(n, steps, processors, values, done);
     if room != 0 {
         return room;
     }

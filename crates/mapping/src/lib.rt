@@ -268,7 +268,7 @@ fn messages_to(
     let m = nest::to_size(s.count);
     let mut number = 0;
     for i in 0..m {
-        let j = sequential::source_at(s, point, i);
+        let j = nest::source_at(s, point, i);
         number = number + is_elsewhere(processors, n, k, j);
     }
     number

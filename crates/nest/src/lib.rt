@@ -4,13 +4,13 @@ ghost use mathlib.Core.Bool.{true, false};
 ghost use Prim.Native.Nat.{ℕ, _+_, _*_, _<_, _≤_};
 ghost use lib.IntN.{pos, natAbs, _+ℤ_, _-ℤ_};
 ghost use lib.Signed.{ltZ, _≤ℤ_};
-ghost use mathlib.Core.List.{[]};
-ghost use lib.ListN.{length, getD, set};
+ghost use mathlib.Core.List.{[], _++_};
+ghost use lib.ListN.{length, getD, set, drop};
 ghost use Rattle.integers.specs.Lists.{any, repeats, tab};
 ghost use Rattle.integers.specs.Vector.{dots, eqV};
 ghost use Rattle.nest.specs.Nest.{emptyNest, withComponent, padded, part, toℕ, depthOf, countOf, limitAt, dependenceAt, maxDepth, maxDependences, maxCube, maxLimit, maxIterations, maxComponent, maxBoundary, maxWeight};
-ghost use Rattle.nest.specs.Points.{extent, points, pointsOf, pointCount, rank, isPoint, source};
-ghost use Rattle.nest.specs.Refusals.{outside, crossed, outOfSpan, backward, refusal, firstMet, headerOrder, limitOrder, vectorOrder, weightOrder, dependence, Checks, Inspects};
+ghost use Rattle.nest.specs.Points.{extent, points, pointsOf, pointCount, rank, isPoint, successor, source};
+ghost use Rattle.nest.specs.Refusals.{outside, crossed, outOfSpan, backward, refusal, firstMet, headerOrder, limitOrder, vectorOrder, weightOrder, noRoom, dependence, Checks, Inspects};
 
 // no such depth: n out of span
 pub const BAD_DEPTH: u8 = 2;
@@ -550,16 +550,16 @@ pub fn point_of(s: LoopNest, rank: usize) -> [i64; LoopNest::MAX_DEPTH]
     point_within(lower, upper, n, rank as u64)
 }
 
-// The index point that comes next in loop order, of n loops whose limits are not crossed: the innermost index that is below its upper limit goes up by one, and those
-// inside it go back to their lower limits.
+// The index point behind one in loop order, of n loops whose limits are not crossed, and the first behind the last; the places behind the n indices stay as
+// they are. The innermost index that is below its upper limit goes up by one, and those inside it go back to their lower limits.
 fn next_within(
     lower: [i64; LoopNest::MAX_DEPTH],
     upper: [i64; LoopNest::MAX_DEPTH],
     n: usize,
     point: [i64; LoopNest::MAX_DEPTH],
 ) -> [i64; LoopNest::MAX_DEPTH]
-    requires { ⌜ (n ≤ maxDepth) × (any crossed (tab (limitAt lower upper) n) ≡ false) ⌝ }
-    ensures { λ p. ⌜ ((r : ℕ) → r + 1 < pointCount (tab (limitAt lower upper) n) → point ≡ padded maxDepth (getD (points (tab (limitAt lower upper) n)) r []) → p ≡ padded maxDepth (getD (points (tab (limitAt lower upper) n)) (r + 1) [])) ⌝ }
+    requires { ⌜ (n ≤ maxDepth) × (any crossed (tab (limitAt lower upper) n) ≡ false) × (isPoint (points (tab (limitAt lower upper) n)) (part point 0 n) ≡ true) ⌝ }
+    ensures { λ p. ⌜ p ≡ successor (points (tab (limitAt lower upper) n)) (part point 0 n) ++ drop n point ⌝ }
 {
     let mut next = point;
     let mut k = n;
@@ -574,10 +574,10 @@ fn next_within(
     next
 }
 
-// The index point behind one of an accepted nest in loop order, with 0 in the places behind the depth.
+// The index point behind one of an accepted nest in loop order, and the first behind the last; the places behind the depth stay as they are.
 pub fn next_point(s: LoopNest, point: [i64; LoopNest::MAX_DEPTH]) -> [i64; LoopNest::MAX_DEPTH]
-    requires { ⌜ refusal s ≡ 0 ⌝ }
-    ensures { λ p. ⌜ ((r : ℕ) → r + 1 < length (pointsOf s) → point ≡ padded maxDepth (getD (pointsOf s) r []) → p ≡ padded maxDepth (getD (pointsOf s) (r + 1) [])) ⌝ }
+    requires { ⌜ (refusal s ≡ 0) × (isPoint (pointsOf s) (part point 0 (depthOf s)) ≡ true) ⌝ }
+    ensures { λ p. ⌜ p ≡ successor (pointsOf s) (part point 0 (depthOf s)) ++ drop (depthOf s) point ⌝ }
 {
     let lower = s.lower;
     let upper = s.upper;
@@ -648,4 +648,29 @@ pub fn source_of(
 {
     let n = to_size(s.depth);
     difference(point, &s.dependences, i, n)
+}
+
+// The rank of the source of an index point along dependence i; the number of iterations where the source is none of them.
+pub fn source_at(s: LoopNest, point: [i64; LoopNest::MAX_DEPTH], i: usize) -> usize
+    requires { ⌜ (refusal s ≡ 0) × (isPoint (pointsOf s) (part point 0 (depthOf s)) ≡ true) × (i < countOf s) ⌝ }
+    ensures { λ r. ⌜ r ≡ rank (pointsOf s) (source (part point 0 (depthOf s)) (dependence s i)) ⌝ }
+{
+    let source = source_of(s, point, i);
+    rank_of(s, source)
+}
+
+// 14 if one of four lent tables has fewer than n entries, 0 otherwise.
+pub fn check_room(n: usize, first: usize, second: usize, third: usize, fourth: usize) -> u8
+    ensures { λ r. ⌜ r ≡ noRoom n first second third fourth ⌝ }
+{
+    if first < n {
+        return SHORT_BUFFER;
+    }
+    if second < n {
+        return SHORT_BUFFER;
+    }
+    if third < n {
+        return SHORT_BUFFER;
+    }
+    if fourth < n { SHORT_BUFFER } else { 0 }
 }

@@ -14,11 +14,11 @@ use Rattle.integers.specs.Lists.{T-true, clash}
 use Rattle.integers.specs.Vector.{Vector, isZeroV}
 use Rattle.nest.specs.declared.LoopNest.{LoopNest}
 use Rattle.nest.specs.Nest.{countOf, timeOf, dependencesOf}
-use Rattle.nest.specs.Points.{pointsOf}
+use Rattle.nest.specs.Points.{pointsOf, point}
 use Rattle.nest.specs.Refusals.{refusal, dependence}
 use Rattle.grouping.specs.Projection.{projection}
 use Rattle.grouping.specs.Grouping.{shifted, remainder, groupingVector, extend, chosenVectors, chosenCount, Zero, Frame, frame, directions, SameClass, Group}
-use Rattle.partition.specs.Partition.{frameOf, point, chosenOf, classOf, groupAt, blockAt}
+use Rattle.partition.specs.Partition.{frameOf, chosenOf, classOf, groupAt, blockAt}
 use Rattle.grouping.proofs.Vectors.{→isZeroV}
 use Rattle.grouping.proofs.Chosen.{no-grouping-iff}
 use Rattle.partition.proofs.Theorems.{no-grouping-vector, block-iff, group-class, along-length, class-number-iff}

@@ -13,7 +13,7 @@ use lib.Seq.{sets-eq, length-take-le}
 use Rattle.io.specs.Counts.{Counts}
 use Rattle.integers.specs.Lists.{split}
 use Rattle.nest.specs.Refusals.{shortBuffer}
-use Rattle.nest.proofs.Accepted.{few-points}
+use Rattle.nest.proofs.PointLaws.{few-points}
 use Rattle.nest.proofs.Entries.{orElse-second, orElse-first, long-enough, same-table, made-table}
 use Rattle.nest_text.specs.declared.Writing.{Writing}
 use Rattle.nest_text.specs.Fields.{Bytes}

@@ -6,21 +6,14 @@ use native.Mathlib.Omega.{arith}
 use lib.ListN.{length}
 use Rattle.nest.specs.declared.LoopNest.{LoopNest}
 use Rattle.nest.specs.Points.{pointsOf}
-use Rattle.nest.specs.Refusals.{shortBuffer, Answered, FromOne}
-use Rattle.nest.proofs.Answers.{answered-append, one-append, short-answered, either-answered, call-one, call-answered}
+use Rattle.nest.specs.Refusals.{shortBuffer, noRoom, OneShort, Answered, FromOne}
+use Rattle.nest.proofs.Answers.{answered-append, one-append, short-answered, room-answered, call-one, call-answered}
 use Rattle.nest_text.specs.Fields.{Bytes}
 use Rattle.nest_text.specs.Text.{readRefusal, readNest, writeRefusal}
 use Rattle.nest_text.specs.Form.{readOrder}
 use Rattle.nest_text.proofs.Answers.{read-answered, read-one}
-use Rattle.planner.specs.Plan.{noRoom, planRefusal, OneShort, planOrder}
+use Rattle.planner.specs.Plan.{planRefusal, planOrder}
 use Rattle.planner.specs.Listing.{planText, listOrder}
-
--- 14, of four tables
-pub room-answered : (n a b c d : ℕ) → Answered ((14, OneShort n a b c d) ∷ []) (noRoom n a b c d)
-room-answered n a b c d =
-    either-answered 14 (shortBuffer n a) _ (omega arith) (short-answered n a)
-    (either-answered 14 (shortBuffer n b) _ (omega arith) (short-answered n b)
-    (either-answered 14 (shortBuffer n c) (shortBuffer n d) (omega arith) (short-answered n c) (short-answered n d)))
 
 -- 2 to 13, then 14
 pub plan-answered : (s : LoopNest) (steps blocks processors values : ℕ) → Answered (planOrder s steps blocks processors values) (planRefusal s steps blocks processors values)

@@ -9,9 +9,9 @@ use lib.Seq.{sets}
 use Rattle.integers.specs.Lists.{tab, tab-same}
 use Rattle.nest.specs.declared.LoopNest.{LoopNest}
 use Rattle.nest.specs.Points.{pointsOf}
-use Rattle.nest.specs.Refusals.{refusal}
-use Rattle.nest.proofs.Accepted.{few-points}
-use Rattle.nest.proofs.Entries.{orElse-second, made-table}
+use Rattle.nest.specs.Refusals.{refusal, noRoom}
+use Rattle.nest.proofs.PointLaws.{few-points}
+use Rattle.nest.proofs.Entries.{orElse-second, none-short, made-table}
 use Rattle.nest_text.specs.Fields.{Bytes}
 use Rattle.nest_text.specs.Text.{line}
 use Rattle.nest_text.specs.Stored.{Stored}
@@ -22,11 +22,11 @@ use Rattle.mapping.specs.Mapping.{processorsOf}
 use Rattle.mapping.proofs.Theorems.{processors-length}
 use Rattle.sequential.specs.Sequential.{valuesOf}
 use Rattle.planner.specs.declared.Planning.{Planning}
-use Rattle.planner.specs.Plan.{noRoom, planRefusal, planAnswer, countsOf, countsIn, tablesIn, Plans}
+use Rattle.planner.specs.Plan.{planRefusal, planAnswer, countsOf, countsIn, tablesIn, Plans}
 use Rattle.planner.specs.Rows.{rowOf}
 use Rattle.planner.specs.Listing.{planLines, planText}
 use Rattle.planner.proofs.LineLaws.{lines-behind, nth-small, counts-length}
-use Rattle.planner.proofs.PlanLaws.{number, none-short, values-length, accepted-number}
+use Rattle.planner.proofs.PlanLaws.{number, values-length, accepted-number}
 use Rattle.planner.proofs.Sizes.{counts-small}
 
 -- a table that starts with n entries has them at its first places

@@ -1,16 +1,13 @@
--- Room in the four tables, and the ways out of `plan`. Assumes nothing.
+-- The ways out of `plan`. Assumes nothing.
 use mathlib.Core.Path.{_≡_, refl, sym, ap, _∙_}
 use mathlib.Core.List.{List, _++_}
-use mathlib.Core.Logic.{_⊎_, inl, inr}
-use Prim.Native.Nat.{ℕ, _<_, _≤_}
-use native.Mathlib.Omega.{arith}
+use Prim.Native.Nat.{ℕ}
 use borrow.Author.Tests.{ne-eqb}
 use lib.ListN.{length, drop}
-use Rattle.integers.specs.Lists.{below-or-not}
 use Rattle.nest.specs.declared.LoopNest.{LoopNest}
 use Rattle.nest.specs.Points.{pointsOf}
-use Rattle.nest.specs.Refusals.{refusal, orElse, shortBuffer}
-use Rattle.nest.proofs.Entries.{orElse-first, orElse-second, orElse-zero, long-enough, too-short, same-table, made-table}
+use Rattle.nest.specs.Refusals.{refusal, noRoom}
+use Rattle.nest.proofs.Entries.{orElse-first, orElse-second, same-table, made-table}
 use Rattle.partition.specs.Partition.{stepsOf, blocksOf}
 use Rattle.partition.proofs.Theorems.{steps-length, blocks-length}
 use Rattle.mapping.specs.Mapping.{processorsOf}
@@ -18,41 +15,7 @@ use Rattle.mapping.proofs.Theorems.{processors-length}
 use Rattle.sequential.specs.Sequential.{sequential, ruleOf, valuesOf}
 use Rattle.sequential.proofs.LoopLaws.{loop-length}
 use Rattle.planner.specs.declared.Planning.{Planning}
-use Rattle.planner.specs.Plan.{noRoom, planRefusal, refusedWith, planAnswer, Tables, tablesIn, tablesRefusal, Plans}
-
--- ---- room for n entries
-
--- a short table is the answer
-pub short-here : (n a k : ℕ) → a < n → orElse (shortBuffer n a) k ≡ 14
-short-here n a k h =
-    let e = too-short n a h in
-    orElse-first (shortBuffer n a) k (λ z. absurd (omega arith)) ∙ e
-
--- a long one leaves it to the others
-pub long-here : (n a k : ℕ) → n ≤ a → orElse (shortBuffer n a) k ≡ k
-long-here n a k h = orElse-second (shortBuffer n a) k (long-enough n a h)
-
--- a table that is not short is long
-pub enough : (n a : ℕ) → shortBuffer n a ≡ 0 → n ≤ a
-enough n a e = go (below-or-not a n)
-  where
-    go : (a < n) ⊎ (n ≤ a) → n ≤ a
-    go (inl h) = let q = too-short n a h in absurd (omega arith)
-    go (inr h) = h
-
--- where none is short, all are long
-pub all-enough : (n a b c d : ℕ) → noRoom n a b c d ≡ 0 → (n ≤ a) × (n ≤ b) × (n ≤ c) × (n ≤ d)
-all-enough n a b c d e =
-    let p = orElse-zero (shortBuffer n a) (orElse (shortBuffer n b) (orElse (shortBuffer n c) (shortBuffer n d))) e in
-    let q = orElse-zero (shortBuffer n b) (orElse (shortBuffer n c) (shortBuffer n d)) (p .1) in
-    let r = orElse-zero (shortBuffer n c) (shortBuffer n d) (q .1) in
-    (enough n a (p .0), enough n b (q .0), enough n c (r .0), enough n d (r .1))
-
--- and where all are long, none is short
-pub none-short : (n a b c d : ℕ) → n ≤ a → n ≤ b → n ≤ c → n ≤ d → noRoom n a b c d ≡ 0
-none-short n a b c d ha hb hc hd =
-    long-here n a (orElse (shortBuffer n b) (orElse (shortBuffer n c) (shortBuffer n d))) ha ∙ long-here n b (orElse (shortBuffer n c) (shortBuffer n d)) hb
-    ∙ long-here n c (shortBuffer n d) hc ∙ long-enough n d hd
+use Rattle.planner.specs.Plan.{planRefusal, refusedWith, planAnswer, Tables, tablesIn, tablesRefusal, Plans}
 
 -- each iteration has a value
 pub values-length : (s : LoopNest) → length (valuesOf s) ≡ length (pointsOf s)

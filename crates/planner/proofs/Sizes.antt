@@ -13,7 +13,8 @@ use Rattle.nest.specs.declared.LoopNest.{LoopNest}
 use Rattle.nest.specs.Nest.{countOf}
 use Rattle.nest.specs.Points.{pointsOf}
 use Rattle.nest.specs.Refusals.{refusal}
-use Rattle.nest.proofs.Accepted.{few-points, count-is}
+use Rattle.nest.proofs.Accepted.{count-is}
+use Rattle.nest.proofs.PointLaws.{few-points}
 use Rattle.nest_text.specs.Text.{line}
 use Rattle.grouping.specs.Grouping.{eqG, blocks}
 use Rattle.partition.specs.Partition.{stepsOf, groupsOf, blocksOf, blockCount}

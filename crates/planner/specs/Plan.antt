@@ -2,14 +2,13 @@
 -- Assumes nothing.
 use mathlib.Core.Path.{_≡_}
 use mathlib.Core.Bool.{true, false}
-use mathlib.Core.Logic.{_⊎_}
 use mathlib.Core.List.{List, [], _∷_, _++_}
-use Prim.Native.Nat.{ℕ, _<_}
+use Prim.Native.Nat.{ℕ}
 use lib.Dec.{eqb}
 use lib.ListN.{length}
 use Rattle.nest.specs.declared.LoopNest.{LoopNest}
 use Rattle.nest.specs.Points.{pointsOf}
-use Rattle.nest.specs.Refusals.{refusal, orElse, shortBuffer, tableAfter, Order, nestOrder}
+use Rattle.nest.specs.Refusals.{refusal, orElse, noRoom, OneShort, tableAfter, Order, nestOrder}
 use Rattle.partition.specs.Partition.{stepsOf, stepCount, blocksOf, blockCount}
 use Rattle.mapping.specs.Mapping.{processorsOf, processorCount, messageCount}
 use Rattle.sequential.specs.Sequential.{valuesOf}
@@ -23,17 +22,9 @@ countsOf s = length (pointsOf s) ∷ stepCount s ∷ blockCount s ∷ processorC
 abbrev pub countsIn : Planning → List ℕ
 countsIn r = r .iterations ∷ r .steps ∷ r .blocks ∷ r .processors ∷ r .messages ∷ []
 
--- 14 if one of four tables has fewer than n entries, 0 otherwise
-abbrev pub noRoom : ℕ → ℕ → ℕ → ℕ → ℕ → ℕ
-noRoom n steps blocks processors values = orElse (shortBuffer n steps) (orElse (shortBuffer n blocks) (orElse (shortBuffer n processors) (shortBuffer n values)))
-
 -- 2 to 13, then 14 for a table with fewer entries than there are iterations
 unfoldable pub planRefusal : LoopNest → ℕ → ℕ → ℕ → ℕ → ℕ
 planRefusal s steps blocks processors values = orElse (refusal s) (noRoom (length (pointsOf s)) steps blocks processors values)
-
--- one of four tables has fewer than n entries
-abbrev pub OneShort : ℕ → ℕ → ℕ → ℕ → ℕ → Type 0
-OneShort n steps blocks processors values = (steps < n) ⊎ ((blocks < n) ⊎ ((processors < n) ⊎ (values < n)))
 
 -- `plan`'s refusals in their order (proofs/Answers.antt: the number is what they answer)
 abbrev pub planOrder : LoopNest → ℕ → ℕ → ℕ → ℕ → Order

@@ -15,7 +15,7 @@ ghost use Rattle.partition.specs.Partition.{stepsOf, blocksOf, blockCount};
 ghost use Rattle.mapping.specs.Mapping.{processorsOf};
 ghost use Rattle.sequential.specs.Sequential.{valuesOf};
 ghost use Rattle.planner.specs.Listing.{planText, Lists};
-ghost use Rattle.planner.specs.Plan.{noRoom, refusedWith, planAnswer, tablesIn, Plans};
+ghost use Rattle.planner.specs.Plan.{refusedWith, planAnswer, tablesIn, Plans};
 
 // What `plan` answers: the number of the first refusal with every count 0, or 0 with the counts.
 pub struct Planning {
@@ -40,22 +40,6 @@ fn refused(refusal: u8) -> Planning
         processors: 0,
         messages: 0,
     }
-}
-
-// 14 if one of four tables has fewer entries than there are iterations, 0 otherwise.
-pub fn check_room(n: usize, steps: usize, blocks: usize, processors: usize, values: usize) -> u8
-    ensures { λ r. ⌜ r ≡ noRoom n steps blocks processors values ⌝ }
-{
-    if steps < n {
-        return SHORT_BUFFER;
-    }
-    if blocks < n {
-        return SHORT_BUFFER;
-    }
-    if processors < n {
-        return SHORT_BUFFER;
-    }
-    if values < n { SHORT_BUFFER } else { 0 }
 }
 
 // The blocks and the processors of the n iterations of an accepted nest, into two tables. Answers how many blocks there are.
@@ -119,7 +103,7 @@ pub fn plan(
     if refusal != 0 {
         return refused(refusal);
     }
-    let room = check_room(n, steps.len(), blocks.len(), processors.len(), values.len());
+    let room = nest::check_room(n, steps.len(), blocks.len(), processors.len(), values.len());
     if room != 0 {
         return refused(room);
     }

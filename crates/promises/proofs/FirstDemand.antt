@@ -12,7 +12,7 @@ use Rattle.nest.specs.declared.LoopNest.{LoopNest}
 use Rattle.nest.specs.declared.Inspection.{Inspection}
 use Rattle.nest.specs.Nest.{emptyNest}
 use Rattle.nest.specs.Points.{pointsOf}
-use Rattle.nest.specs.Refusals.{number, refusal, iterations, tableAfter, Order, Answered, numbersOf, nestOrder, nestNumbers, Checks, Inspects}
+use Rattle.nest.specs.Refusals.{number, refusal, iterations, OneShort, tableAfter, Order, Answered, numbersOf, nestOrder, nestNumbers, Checks, Inspects}
 use Rattle.nest.proofs.Answers.{answered-listed, nest-answered}
 use Rattle.nest.proofs.Entries.{same-table}
 use Rattle.nest_text.specs.Fields.{Bytes}
@@ -31,7 +31,7 @@ use Rattle.sequential.proofs.Answers.{fill-answered}
 use Rattle.partition.specs.Partition.{stepsOf, blocksOf}
 use Rattle.mapping.specs.Mapping.{processorsOf}
 use Rattle.planner.specs.declared.Planning.{Planning}
-use Rattle.planner.specs.Plan.{OneShort, planOrder, planAnswer, refusedWith, Tables, tablesRefusal, Plans}
+use Rattle.planner.specs.Plan.{planOrder, planAnswer, refusedWith, Tables, tablesRefusal, Plans}
 use Rattle.planner.specs.Listing.{planText, listOrder, Lists}
 use Rattle.planner.proofs.Answers.{plan-answered, list-answered}
 use Rattle.execution.specs.declared.Answer.{Answer}

@@ -14,7 +14,7 @@ use Rattle.integers.specs.Lists.{count}
 use Rattle.integers.specs.Vector.{dots}
 use Rattle.nest.specs.declared.LoopNest.{LoopNest}
 use Rattle.nest.specs.Nest.{toℕ, countOf, timeOf, cleared}
-use Rattle.nest.specs.Points.{pointsOf, source}
+use Rattle.nest.specs.Points.{pointsOf, point, source}
 use Rattle.nest.specs.declared.Inspection.{Inspection}
 use Rattle.nest.specs.Refusals.{dependence, Order, Answered, nestOrder, Checks, Inspects}
 use Rattle.nest_text.specs.Fields.{Bytes}
@@ -24,7 +24,7 @@ use Rattle.nest_text.specs.Text.{writeOrder, Reads, Writes}
 use Rattle.nest_text.specs.Form.{readOrder}
 use Rattle.rows.specs.declared.Span.{Span}
 use Rattle.rows.specs.Rows.{rowOrder, Locates, Cuts}
-use Rattle.partition.specs.Partition.{stepsOf, blocksOf, point, groupAt}
+use Rattle.partition.specs.Partition.{stepsOf, blocksOf, groupAt}
 use Rattle.mapping.specs.Mapping.{processorsOf, processorCount, isMessage, pairs}
 use Rattle.sequential.specs.Sequential.{valueOf, ruleOf, valuesOf, fillOrder, Fills}
 use Rattle.planner.specs.declared.Planning.{Planning}

@@ -18,7 +18,8 @@ use Rattle.nest.specs.Nest.{Limit, toℕ, limitAt, limitsOf, depthOf}
 use Rattle.nest.specs.Points.{extent, points, pointsOf, pointCount}
 use Rattle.nest.specs.Refusals.{refusal, outside, limit}
 use Rattle.nest.proofs.Order.{point-count, point-at, index-of, places, Places}
-use Rattle.nest.proofs.Accepted.{depth-is, some-points}
+use Rattle.nest.proofs.Accepted.{depth-is}
+use Rattle.nest.proofs.PointLaws.{some-points}
 use Rattle.nest.proofs.Conditions.{in-span}
 use Rattle.nest.proofs.Counted.{extent-distance}
 use Rattle.integers.specs.Order.{≤-trans}

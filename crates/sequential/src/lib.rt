@@ -15,15 +15,6 @@ ghost use Rattle.sequential.specs.Sequential.{valueOf, loop, ruleOf, Fil
 // Values are below it.
 const MODULUS: usize = 65536;
 
-// The rank of the source of an index point along dependence i; the number of iterations where the source is none of them.
-pub fn source_at(s: LoopNest, point: [i64; LoopNest::MAX_DEPTH], i: usize) -> usize
-    requires { ⌜ (refusal s ≡ 0) × (isPoint (pointsOf s) (part point 0 (depthOf s)) ≡ true) × (i < countOf s) ⌝ }
-    ensures { λ r. ⌜ r ≡ rank (pointsOf s) (source (part point 0 (depthOf s)) (dependence s i)) ⌝ }
-{
-    let source = nest::source_of(s, point, i);
-    nest::rank_of(s, source)
-}
-
 // Entry j of the first n of a table; the boundary value where j is none of them.
 fn entry_or(values: &[u16], n: usize, j: usize, boundary: u16) -> u16
     requires { ⌜ n ≤ length (now values) ⌝ }
@@ -44,7 +35,7 @@ fn weighted_source(
     ensures { λ r. ⌜ r ≡ toℕ (getD (s .weights) i (pos 0)) * getD (take n (now (values .entry))) (rank (pointsOf s) (source (part point 0 (depthOf s)) (dependence s i))) (toℕ (s .boundary)) ⌝ }
     ensures { λ r. ⌜ r ≤ maxWeight * maxBoundary ⌝ }
 {
-    let j = source_at(s, point, i);
+    let j = nest::source_at(s, point, i);
     let boundary = nest::to_size(s.boundary) as u16;
     let weights = s.weights;
     let weight = nest::to_size(weights[i]);

@@ -1,9 +1,8 @@
 -- `check_buffers` meets its contract: the first short buffer is the answer. Assumes nothing.
 use borrow.Author.Needs.{needs}
 use mathlib.Core.Path.{sym, _∙_}
-use Rattle.nest.specs.Refusals.{shortBuffer}
+use Rattle.nest.specs.Refusals.{shortBuffer, noRoom}
 use Rattle.nest.proofs.Entries.{orElse-first, orElse-second, long-enough, too-short}
-use Rattle.planner.specs.Plan.{noRoom}
 use Rattle.execution.proofs.check_buffers.Statement.{statement}
 use Rattle.execution.proofs.check_buffers.Tie as tie
 

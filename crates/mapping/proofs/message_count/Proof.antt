@@ -10,7 +10,8 @@ use Rattle.nest.specs.declared.LoopNest.{LoopNest}
 use Rattle.nest.specs.Nest.{countOf, padded, maxDepth, maxDependences}
 use Rattle.nest.specs.Points.{pointsOf}
 use Rattle.nest.specs.Refusals.{refusal}
-use Rattle.nest.proofs.Accepted.{count-is, few-points, some-points}
+use Rattle.nest.proofs.Accepted.{count-is}
+use Rattle.nest.proofs.PointLaws.{few-points, some-points, array-point, next-in-array}
 use Rattle.mapping.specs.Mapping.{isMessage, total}
 use Rattle.mapping.proofs.Messages.{count-most, total-none, total-tab-more, total-most}
 use Rattle.mapping.proofs.message_count.Statement.{statement}
@@ -50,7 +51,11 @@ add-number c =
     omega (arith, m, o, l .inv .1, c .messages-to .ensures, c .before .loop-test .taken, t .pre .1, few-points (a .s) (t .pre .0))
 
 next-point-requires : tie.Need-next-point-requires Inv-loop μ-loop
-next-point-requires c κs = c .before .before .before .before .before .pre .0
+next-point-requires c κs =
+    let l = c .before .before .loop in
+    let t = c .before .before .before .before .before in
+    let k = c .before .loop-test .taken in
+    (t .pre .0, array-point (t .args .s) (l .k) (l .point) (omega (arith, k, t .pre .1)) (l .inv .2 k))
 
 add-k : tie.Need-add-k Inv-loop μ-loop
 add-k c = search needs
@@ -65,8 +70,11 @@ loop-again c =
     let t = d .before .before .before .before .before in
     let a = t .args in
     let k = d .before .loop-test .taken in
-    let m = total-tab-more (row (a .s) (a .n) (a .processors .now)) (l .k) in
-    (omega (arith, k), omega (arith, l .inv .1, d .messages-to .ensures, m), λ h. c .next-point .ensures (l .k) (omega (arith, h, t .pre .1)) (l .inv .2 k))
+    let m = total-tab-more (row (a .s) (a .n) (a .processors .now)) (l .k) in (
+      omega (arith, k),
+      omega (arith, l .inv .1, d .messages-to .ensures, m),
+      λ h. next-in-array (a .s) (l .k) (l .point) (c .next-point .result) (omega (arith, h, t .pre .1)) (l .inv .2 k) (c .next-point .ensures),
+    )
 
 returns : tie.Need-returns Inv-loop μ-loop
 returns c =

@@ -11,10 +11,10 @@ use Rattle.integers.specs.Lists.{tab, count}
 use Rattle.nest.specs.declared.LoopNest.{LoopNest}
 use Rattle.nest.specs.Nest.{toℕ, countOf}
 use Rattle.nest.specs.Points.{pointsOf}
+use Rattle.nest.proofs.PointLaws.{array-point}
 use Rattle.mapping.specs.Mapping.{isMessage}
 use Rattle.mapping.specs.Keys.{oneIf}
 use Rattle.mapping.proofs.Counting.{one-most}
-use Rattle.sequential.proofs.SourceLaws.{array-point}
 use Rattle.mapping.proofs.Messages.{message-is, count-none, count-tab-more}
 use Rattle.mapping.proofs.messages_to.Statement.{statement}
 use Rattle.mapping.proofs.messages_to.Tie as tie

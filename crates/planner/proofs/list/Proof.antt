@@ -9,7 +9,7 @@ use Rattle.nest.specs.declared.LoopNest.{LoopNest}
 use Rattle.nest.specs.declared.Inspection.{Inspection}
 use Rattle.nest.specs.Points.{pointsOf}
 use Rattle.nest.specs.Refusals.{refusal}
-use Rattle.nest.proofs.Accepted.{few-points}
+use Rattle.nest.proofs.PointLaws.{few-points}
 use Rattle.nest.proofs.Entries.{iterations-are}
 use Rattle.nest_text.specs.declared.Reading.{Reading}
 use Rattle.nest_text.specs.Fields.{Bytes}

@@ -8,7 +8,8 @@ use lib.ListN.{length, drop}
 use Rattle.integers.specs.Bounds.{told}
 use Rattle.nest.specs.Nest.{toℕ}
 use Rattle.nest.specs.Points.{pointsOf}
-use Rattle.nest.proofs.Accepted.{few-points, some-points, cube-is}
+use Rattle.nest.proofs.Accepted.{cube-is}
+use Rattle.nest.proofs.PointLaws.{few-points, some-points}
 use Rattle.mapping.proofs.Theorems.{laid-nest}
 use Rattle.planner.proofs.Bridge.{keyed, laid}
 use Rattle.planner.proofs.place_blocks.Statement.{statement}

@@ -4,10 +4,9 @@ use mathlib.Core.Path.{_≡_, sym, ap, _∙_}
 use lib.ListN.{length}
 use Rattle.nest.specs.declared.Inspection.{Inspection}
 use Rattle.nest.specs.Points.{pointsOf}
-use Rattle.nest.specs.Refusals.{refusal}
-use Rattle.nest.proofs.Entries.{iterations-are}
-use Rattle.planner.specs.Plan.{noRoom}
-use Rattle.planner.proofs.PlanLaws.{all-enough, refused-nest, short-table, made-plan}
+use Rattle.nest.specs.Refusals.{refusal, noRoom}
+use Rattle.nest.proofs.Entries.{iterations-are, all-enough}
+use Rattle.planner.proofs.PlanLaws.{refused-nest, short-table, made-plan}
 use Rattle.planner.proofs.plan.Statement.{statement}
 use Rattle.planner.proofs.plan.Tie as tie
 

@@ -5,7 +5,7 @@ use mathlib.Core.List.{List}
 use Prim.Native.Nat.{ℕ}
 use native.Mathlib.Omega.{arith}
 use lib.ListN.{replicate}
-use Rattle.nest.proofs.Accepted.{few-points}
+use Rattle.nest.proofs.PointLaws.{few-points}
 use Rattle.planner.proofs.ListLaws.{Tabled, tabled}
 use Rattle.planner.proofs.put_plan.Statement.{statement}
 use Rattle.planner.proofs.put_plan.Tie as tie

@@ -13,7 +13,8 @@ use Rattle.nest.specs.declared.Inspection.{Inspection}
 use Rattle.nest.specs.Nest.{toℕ}
 use Rattle.nest.specs.Points.{pointsOf}
 use Rattle.nest.specs.Refusals.{refusal, outside, limit}
-use Rattle.nest.proofs.Accepted.{depth-is, not-crossed, few-points}
+use Rattle.nest.proofs.Accepted.{depth-is, not-crossed}
+use Rattle.nest.proofs.PointLaws.{few-points}
 use Rattle.nest.proofs.Counted.{extent-distance, extent-within}
 use Rattle.integers.specs.Linear.{ints, sizes}
 use Rattle.nest.proofs.Conditions.{Uncrossed, uncrossed, in-span}

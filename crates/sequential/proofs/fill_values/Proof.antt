@@ -7,7 +7,7 @@ use native.Mathlib.Omega.{arith}
 use lib.ListN.{length, getD}
 use Rattle.nest.specs.Nest.{padded, maxDepth}
 use Rattle.nest.specs.Points.{pointsOf}
-use Rattle.nest.proofs.Accepted.{few-points, some-points}
+use Rattle.nest.proofs.PointLaws.{few-points, some-points, array-point, next-in-array}
 use Rattle.sequential.proofs.FillLaws.{filledTo, filled-none, filled-length, filled-more}
 use Rattle.sequential.proofs.fill_values.Statement.{statement}
 use Rattle.sequential.proofs.fill_values.Tie as tie
@@ -46,7 +46,11 @@ slice-write-values : tie.Need-slice-write-values Inv-loop μ-loop
 slice-write-values c = omega (arith, c .before .before .before .before .before .before .pre .2, kept (c .before .before .before), c .before .before .loop-test .taken)
 
 next-point-requires : tie.Need-next-point-requires Inv-loop μ-loop
-next-point-requires c κs = c .before .before .before .before .before .before .pre .0
+next-point-requires c κs =
+    let l = c .before .before .before in
+    let t = l .before .before .before in
+    let k = c .before .before .loop-test .taken in
+    (t .pre .0, array-point (t .args .s) (l .loop .k) (l .loop .point) (omega (arith, k, t .pre .1)) (l .loop .inv .2 k))
 
 add-k : tie.Need-add-k Inv-loop μ-loop
 add-k c = search needs
@@ -62,7 +66,7 @@ loop-again c =
     let k = v .before .before .loop-test .taken in (
       omega (arith, k),
       filled-more (t .args .s) (t .args .values .now) (t .pre .0) (l .loop .k) (v .value-from .result) (l .loop .values) (omega (arith, k, t .pre .1)) (omega (arith, k, t .pre .2)) (l .loop .inv .1) (v .value-from .ensures),
-      λ h. c .next-point .ensures (l .loop .k) (omega (arith, h, t .pre .1)) (l .loop .inv .2 k),
+      λ h. next-in-array (t .args .s) (l .loop .k) (l .loop .point) (c .next-point .result) (omega (arith, h, t .pre .1)) (l .loop .inv .2 k) (c .next-point .ensures),
     )
 
 same-length : tie.Need-same-length Inv-loop μ-loop

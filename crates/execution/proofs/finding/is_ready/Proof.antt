@@ -2,7 +2,7 @@
 use borrow.Author.Needs.{needs}
 use native.Mathlib.Omega.{arith}
 use Rattle.nest.proofs.Accepted.{count-is}
-use Rattle.sequential.proofs.SourceLaws.{array-point}
+use Rattle.nest.proofs.PointLaws.{array-point}
 use Rattle.execution.proofs.FindingLaws.{ready-none, ready-same, ready-missing, ready-bit}
 use Rattle.execution.proofs.finding.is_ready.Statement.{statement}
 use Rattle.execution.proofs.finding.is_ready.Tie as tie

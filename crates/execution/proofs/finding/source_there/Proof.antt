@@ -3,7 +3,7 @@ use borrow.Author.Needs.{needs}
 use mathlib.Core.Path.{refl}
 use native.Mathlib.Omega.{arith}
 use Rattle.nest.proofs.Accepted.{count-is}
-use Rattle.sequential.proofs.SourceLaws.{array-point}
+use Rattle.nest.proofs.PointLaws.{array-point}
 use Rattle.execution.proofs.FindingLaws.{there-none, there-done, there-delivered}
 use Rattle.execution.proofs.finding.source_there.Statement.{statement}
 use Rattle.execution.proofs.finding.source_there.Tie as tie
