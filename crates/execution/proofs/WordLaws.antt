@@ -1,4 +1,5 @@
 -- The executable rules are document 01's sentences: what they do the sentences say, and the sentences leave no choice.
+-- The numbers that these refuse with are what the refusals, in their order, answer.
 -- Assumes nothing.
 use mathlib.Core.Path.{_≡_, refl, sym, ap, ap₂, subst, _∙_}
 use mathlib.Core.Bool.{true, false, not, _&&_}

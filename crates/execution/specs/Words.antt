@@ -1,4 +1,5 @@
--- The rules of a move once more, in document 01's sentences, for whatever a move looks at. proofs/WordLaws.antt shows that the executable rules are exactly these.
+-- The rules of a move once more, in document 01's sentences, for whatever a move looks at, and its refusals in their order.
+-- proofs/WordLaws.antt shows that the executable rules are exactly these.
 -- Assumes nothing.
 use mathlib.Core.Path.{_≡_}
 use mathlib.Core.Bool.{true, false}

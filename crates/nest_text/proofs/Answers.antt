@@ -137,4 +137,6 @@ module _ (bs : Bytes) where
 
   -- none of them is 0
   pub read-one : FromOne (readOrder bs)
-  read-one = (omega arith, one-append (numbered (LineMeets bs) headerOrder) ((1, RestMalformed bs) ∷ numbered (NestMeets bs) bodyOrder) (numbered-one (LineMeets bs) headerOrder) (omega arith, numbered-one (NestMeets bs) bodyOrder))
+  read-one =
+      let others : Order = (1, RestMalformed bs) ∷ numbered (NestMeets bs) bodyOrder in
+      (omega arith, one-append (numbered (LineMeets bs) headerOrder) others (numbered-one (LineMeets bs) headerOrder) (omega arith, numbered-one (NestMeets bs) bodyOrder))

@@ -1,5 +1,5 @@
 -- The form of a text, and what reading it answers, in document 01's words. proofs/ shows that what is computed is exactly this: Numerals.antt for Fields.readOf,
--- LineBack.antt for Text.isLine and Text.areLines, SaysLaws.antt for Text.readRefusal and Text.readNest.
+-- LineBack.antt for Text.isLine and Text.areLines, Answers.antt for Text.readRefusal, SaysLaws.antt for it and Text.readNest.
 -- Assumes nothing.
 use mathlib.Core.Path.{_≡_}
 use mathlib.Core.List.{List, [], _∷_, _++_, map}
