@@ -1,5 +1,6 @@
 -- The text of a loop nest (document 01, "The sheet"): what is written for a nest, and what a text is read as, with its refusals in the document's order.
 -- Assumes nothing.
+use mathlib.Core.Path.{_≡_}
 use mathlib.Core.Bool.{Bool, true, false, not, _&&_}
 use mathlib.Core.List.{List, [], _∷_, _++_, map, flatMap}
 use Prim.Native.Nat.{ℕ, _+_, _*_, _<_}
