@@ -1,5 +1,5 @@
-//! Document 01's examples P1 to P10, its listing in full, and the counts that source document 000
-//! gives for its loops L1 and L2.
+//! Document 01's examples P1 to P10, its listing in full, the counts that source document 000
+//! gives for its loops L1 and L2, and nests worked out by hand.
 
 use second::listing::listing;
 use second::nest::{inner_product, LoopNest};
@@ -256,4 +256,43 @@ fn all_projections_zero_makes_each_projected_point_a_group() {
     assert_eq!(plan.partition.beta(), 0);
     assert_eq!(plan.partition.block_count(), 7);
     assert_eq!(plan.partition.class_count(), 7);
+}
+
+/// The projection of (x,y) is (0,y), so block y holds (0,y) to (3,y). All bits go to the class, whose
+/// parts 0, 1, 2, 3 have the Gray codes 0, 1, 3, 2.
+#[test]
+fn without_a_grouping_vector_the_bits_go_to_the_class() {
+    let mut nest = silent_nest(2);
+    nest.time_vector = vec![1, 0];
+    nest.cube_dimension = 2;
+    set_dependences(&mut nest, &[&[1, 0]]);
+    let plan = plan(&nest);
+    assert_eq!((plan.partition.group_size, plan.partition.beta()), (1, 0));
+    assert_eq!(plan.partition.projected_points.len(), 4);
+    assert_eq!(plan.partition.blocks, [0, 1, 2, 3].repeat(4));
+    assert_eq!(dependence_counts(&nest, &plan), (12, 0));
+    assert_eq!(plan.mapping.block_processors, vec![0, 1, 3, 2]);
+    assert_eq!(plan.mapping.messages.len(), 0);
+}
+
+/// Widths 3, 5 and 2: q, b, class and b again take a bit, and the fifth is left. The parts of
+/// q = -2, -1, 0 are 0, 0, 1; those of b have the codes 0, 0, 1, 3, 2; the class is its own part.
+#[test]
+fn directions_whose_widths_are_no_powers_of_2() {
+    let mut nest = silent_nest(3);
+    nest.upper = vec![1, 5, 4];
+    nest.time_vector = vec![1, 0, 0];
+    nest.cube_dimension = 5;
+    set_dependences(&mut nest, &[&[1, -2, 0], &[1, 0, 1]]);
+    let plan = plan(&nest);
+    assert_eq!((plan.partition.group_size, plan.partition.beta()), (1, 2));
+    assert_eq!((plan.partition.class_count(), plan.partition.block_count()), (2, 30));
+    assert_eq!(dependence_counts(&nest, &plan), (44, 44));
+    assert_eq!(plan.mapping.bits, vec![1, 2, 1]);
+    let first_of_row = [8, 9, 0, 1, 0, 1];
+    let codes_of_b = [0, 0, 1, 3, 2];
+    let expected: Vec<usize> =
+        (0..30).map(|k| first_of_row[k / 5] + 2 * codes_of_b[k % 5]).collect();
+    assert_eq!(plan.mapping.block_processors, expected);
+    assert_eq!(plan.mapping.messages.len(), 28);
 }
