@@ -1,6 +1,6 @@
 -- The examples P1 to P10 of document 01 ("Mixes to try"), the counts of 000's loops L1 and L2, and two nests worked out by hand, as one table; `examples-hold`
--- checks all of it on the definitions, by computation. Where a case is silent: limits 0..3, time vector of ones, cube dimension 0, boundary value and weights 1,
--- and the dependence is 1 in the innermost loop.
+-- checks all of it on the definitions, by computation. Where a case is silent: limits 0..3, time vector of ones, cube dimension 0, boundary value and weights
+-- 1, and the dependence is 1 in the innermost loop.
 -- Assumes nothing.
 use mathlib.Core.Path.{_≡_, refl}
 use mathlib.Core.Bool.{Bool, true, false, _&&_}
@@ -117,15 +117,15 @@ one u = nestWith (u ∷ []) (vector (1 ∷ [])) (vector (1 ∷ []) ∷ []) 0
 
 -- β = 0. The time vector is (1,0), so s is 1 and the projection of (x,y) is (0,y). That of the only dependence, (1,0), is zero: there is no grouping vector,
 -- r is 1, and each of the projected points (0,0), (0,1), (0,2), (0,3) is a class, a group and a block of its own. Block y holds (0,y) to (3,y), and each of the
--- 12 sources is in its iteration's block. Widths of q, b and class: 1, 1 and 4. So both bits go to the class, whose parts 0, 1, 2, 3 have the Gray codes 0, 1, 3, 2.
+-- 12 sources is in its iteration's block. Widths of q, b and class: 1, 1, 4. Both bits go to the class, whose parts 0, 1, 2, 3 have the Gray codes 0, 1, 3, 2.
 unfoldable pub ungrouped : LoopNest
 ungrouped = nestWith (3 ∷ 3 ∷ []) (vector (1 ∷ 0 ∷ [])) (vector (1 ∷ 0 ∷ []) ∷ []) 2
 
 -- Widths 3, 5 and 2. The time vector is (1,0,0), so s is 1 and the projection of (a,x,y) is (0,x,y). Those of the dependences, (0,-2,0) and (0,0,1), are whole:
--- r is 1, the first is the grouping vector and the second the auxiliary one. Points are in one class if their x differ by an even number; seeds (0,0,0), (0,1,0).
+-- r is 1, the first is the grouping vector, the second the auxiliary one. Points are in one class if their x differ by an even number; seeds (0,0,0), (0,1,0).
 -- With x = 2z + w, z from 0 to 2 and w from 0 to 1, the group is class w, q = -z, b = y. No two projected points have one group, so (0,x,y) is in block 5x + y.
 -- Widths: q 3 (from -2 to 0), b 5, class 2. Bits go to q, b, class, b; then none can take one (4 > 3, 8 > 5, 4 > 2), and the fifth is left.
--- Parts of q, (q + 2) × 2 / 3, are 0, 0, 1 for q = -2, -1, 0; parts of b, y × 4 / 5, are 0, 0, 1, 2, 3 with the codes 0, 0, 1, 3, 2; parts of the class are 0, 1.
+-- Parts of q, (q + 2) × 2 / 3, are 0, 0, 1 for q = -2, -1, 0; parts of b, y × 4 / 5, are 0, 0, 1, 2, 3 with the codes 0, 0, 1, 3, 2; of the class 0, 1.
 -- Joined: 8 × code of q + 2 × code of b + class. So x = 0 has 8 + 2 × code of b, x = 2 and x = 4 have 2 × code of b, and x = 1, 3, 5 have one more each.
 -- Sources: along (1,-2,0) of (1,x,y) with x from 0 to 3, 4 × 5; along (1,0,1) of (1,x,y) with y from 1 to 4, 6 × 4; all in other blocks. On other processors:
 -- along the first for x = 0 and x = 1 (q = 0, its source's -1), 2 × 5; along the second for y = 2, 3, 4 (0 and 1 have one code), 6 × 3.
