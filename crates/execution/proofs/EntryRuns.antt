@@ -1,7 +1,7 @@
 -- Demand 3 of the entry itself: a list of calls of `make_move`, each as its contract says, is a run, so that the claim speaks of the entry's own answers and buffers.
 -- Assumes nothing.
 use mathlib.Core.Path.{_≡_, refl, sym, ap, ap₂, subst, _∙_}
-use mathlib.Core.List.{List, [], _∷_, map}
+use mathlib.Core.List.{List, _∷_, map}
 use Prim.Native.Nat.{ℕ}
 use Rattle.nest.specs.declared.LoopNest.{LoopNest}
 use Rattle.nest.specs.Refusals.{refusal}

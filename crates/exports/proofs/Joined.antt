@@ -1,6 +1,6 @@
 -- A call on numbers: its nest is the one that the numbers are, and its answer is made of those stored. Assumes nothing.
-use mathlib.Core.Path.{_≡_, refl, subst, ap, ap₂, _∙_}
-use mathlib.Core.List.{List, [], _∷_}
+use mathlib.Core.Path.{_≡_, subst, ap, ap₂, _∙_}
+use mathlib.Core.List.{List}
 use Prim.Native.Nat.{ℕ}
 use lib.IntN.{ℤ}
 use Rattle.nest.specs.declared.LoopNest.{LoopNest}

@@ -16,7 +16,7 @@ use Rattle.nest.specs.declared.LoopNest.{LoopNest}
 use Rattle.nest.specs.Nest.{depthOf, countOf, emptyNest, maxDepth, maxDependences}
 use Rattle.nest.specs.Refusals.{firstMet, headerOrder, bodyOrder, refusal, orElse}
 use Rattle.nest_text.specs.Fields.{Bytes, newline, readOf}
-use Rattle.nest_text.specs.Text.{textOf, isMalformed, numberOf, fieldAt, isLine, numbersOf, behind, areLines, lineNumbers, headerWidth, widths, headed, nestFrom, headerOf, widthsOf, bodyOf, malformedUnless, readRefusal, readNest}
+use Rattle.nest_text.specs.Text.{textOf, isMalformed, numberOf, fieldAt, isLine, numbersOf, behind, areLines, lineNumbers, headerWidth, widths, headed, nestFrom, headerOf, widthsOf, bodyOf, malformedUnless, readRefusal, readNest, readMost}
 use Rattle.nest.proofs.Spans.{spans, HeaderSpans, header-spans}
 use Rattle.nest_text.proofs.TextLength.{text-most}
 use Rattle.nest.proofs.Entries.{orElse-zero}
@@ -106,10 +106,6 @@ widths-most n m h k =
 header-take : (N : ℕ) (bs : Bytes) → 19 ≤ N → headerOf (take N bs) ≡ headerOf bs
 unfolding headerOf
 header-take N bs h = ap headed (numbers-take N headerWidth bs (omega arith))
-
--- the bytes that are looked at: the longest text, and one more
-abbrev pub readMost : ℕ
-readMost = 285
 
 -- what is read behind a line 1 that is not refused
 module _ (bs : Bytes) (h : HeaderSpans (headerOf bs)) where

@@ -18,7 +18,7 @@ use Rattle.nest_text.specs.Fields.{Bytes, fieldOf}
 use Rattle.nest_text.specs.Text.{line, linesOf, textOf, isLine, numbersOf, behind, areLines, lineNumbers, headerWidth, widths, headed, nestFrom, headerOf, widthsOf, bodyOf, readRefusal, readNest}
 use Rattle.nest_text.specs.Reader.{headerRefusal}
 use Rattle.nest_text.specs.Stored.{InColumns}
-use Rattle.nest_text.specs.Form.{Consists, Whole}
+use Rattle.nest_text.specs.Form.{Consists, Whole, WrittenRead}
 use Rattle.nest_text.proofs.WriteLaws.{field-length}
 use Rattle.nest.proofs.Spans.{Spans, spans, HeaderSpans, header-spans}
 use Rattle.nest.proofs.Refused.{accepted}
@@ -154,12 +154,6 @@ read-written s e =
 pub header-is : (bs : Bytes) → headerOf bs .depth ∷ headerOf bs .count ∷ headerOf bs .cube ∷ [] ≡ numbersOf headerWidth bs
 unfolding headerOf headed
 header-is bs = triple-back (numbersOf headerWidth bs) (numbers-length headerWidth bs)
-
--- what was read is written again as it stood; it is an accepted nest, with 0 in the places that are no part of it
-pub record WrittenRead (bs : Bytes) : Type 0 where
-  pub same-bytes : textOf (readNest bs) ≡ bs
-  pub accepted : refusal (readNest bs) ≡ 0
-  pub clear-places : cleared (readNest bs) ≡ readNest bs
 
 -- a text that says a nest is the nest's text
 pub whole-text : (bs : Bytes) (s : LoopNest) → Whole bs s → LinesInColumns (linesOf s) × (bs ≡ textOf s)

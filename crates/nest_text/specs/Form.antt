@@ -8,9 +8,9 @@ use lib.IntN.{ℤ, pos, negℤ}
 use lib.ListN.{length, getD, replicate}
 use Rattle.nest.specs.declared.LoopNest.{LoopNest}
 use Rattle.nest.specs.Nest.{toℕ, cleared, emptyNest}
-use Rattle.nest.specs.Refusals.{Refusal, headerOrder, bodyOrder, Condition, Order, Answered, numbered}
+use Rattle.nest.specs.Refusals.{Refusal, headerOrder, bodyOrder, refusal, Condition, Order, Answered, numbered}
 use Rattle.nest_text.specs.Fields.{Bytes, newline}
-use Rattle.nest_text.specs.Text.{linesOf, widths, headed}
+use Rattle.nest_text.specs.Text.{linesOf, textOf, widths, headed, readNest}
 
 -- ---- a number in columns
 
@@ -93,3 +93,11 @@ pub record ReadSays (bs : Bytes) (k : ℕ) (x : LoopNest) : Type 0 where
   pub number-is : Answered (readOrder bs) k
   pub nest-said : k ≡ 0 → Whole bs x
   pub nest-refused : (k ≡ 0 → ⊥) → x ≡ emptyNest
+
+-- ---- read and written
+
+-- what was read is written again as it stood; it is an accepted nest, with 0 in the places that are no part of it
+pub record WrittenRead (bs : Bytes) : Type 0 where
+  pub same-bytes : textOf (readNest bs) ≡ bs
+  pub accepted : refusal (readNest bs) ≡ 0
+  pub clear-places : cleared (readNest bs) ≡ readNest bs

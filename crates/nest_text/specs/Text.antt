@@ -125,6 +125,10 @@ readRefusal bs =
 unfoldable pub readNest : Bytes → LoopNest
 readNest bs = elim (eqb (readRefusal bs) 0) [ true ↦ bodyOf bs | false ↦ emptyNest ]
 
+-- the bytes that are looked at: the longest text, and one more (proofs/ReadPrefix.antt: those behind them change nothing)
+abbrev pub readMost : ℕ
+readMost = 285
+
 -- ---- writing into a lent buffer: a call that is refused with a number, or not if it is 0, and has these bytes to write
 
 -- that number, then 14 for a buffer with fewer bytes than there are to write

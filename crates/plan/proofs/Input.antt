@@ -8,8 +8,8 @@ use lib.IntN.{pos}
 use lib.ListN.{take}
 use Rattle.nest.specs.declared.LoopNest.{LoopNest}
 use Rattle.nest_text.specs.Fields.{Bytes}
-use Rattle.nest_text.specs.Text.{line}
-use Rattle.nest_text.proofs.ReadPrefix.{readMost, read-prefix}
+use Rattle.nest_text.specs.Text.{line, readMost}
+use Rattle.nest_text.proofs.ReadPrefix.{read-prefix}
 use Rattle.planner.specs.Listing.{planText, listing}
 
 -- what is printed for a text whose reading gives this number and this nest

@@ -13,17 +13,8 @@ use Rattle.nest.proofs.Places.{SameParts, same-points, same-source, accepted-sa
 use Rattle.grouping.specs.Grouping.{frame, seeds, group, blocks, blockNumber}
 use Rattle.partition.specs.Partition.{step, stepsOf, stepCount, frameOf, groupsOf, blocksOf, blockCount}
 use Rattle.mapping.specs.Mapping.{undealt, dealt, directionsOf, processor, processorsOf, processorCount, crosses, isMessage, total, messageCount}
-use Rattle.sequential.specs.Sequential.{valuesOf}
 use Rattle.sequential.proofs.Ignored.{same-values}
-use Rattle.planner.specs.Plan.{countsOf}
-
--- two nests have the same four tables and five counts
-pub record SamePlan (s t : LoopNest) : Type 0 where
-  pub steps : stepsOf s ≡ stepsOf t
-  pub blocks-are : blocksOf s ≡ blocksOf t
-  pub processors : processorsOf s ≡ processorsOf t
-  pub values : valuesOf s ≡ valuesOf t
-  pub counts : countsOf s ≡ countsOf t
+use Rattle.planner.specs.Plan.{countsOf, SamePlan}
 
 module _ {s t : LoopNest} (p : SameParts s t) where
   same-steps : stepsOf s ≡ stepsOf t

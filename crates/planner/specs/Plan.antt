@@ -42,6 +42,14 @@ planAnswer s k =
       | false ↦ refusedWith k
     ]
 
+-- two nests have the same four tables and five counts
+pub record SamePlan (s t : LoopNest) : Type 0 where
+  pub steps : stepsOf s ≡ stepsOf t
+  pub blocks-are : blocksOf s ≡ blocksOf t
+  pub processors : processorsOf s ≡ processorsOf t
+  pub values : valuesOf s ≡ valuesOf t
+  pub counts : countsOf s ≡ countsOf t
+
 -- ---- what a call of `plan` promises
 
 -- the four tables that it is lent, or leaves

@@ -1,24 +1,21 @@
 -- Demand 1, of every entry: what its promise says is one outcome, which is done or refused with a number of its list, and a refused one changes nothing.
 -- Assumes nothing.
-use mathlib.Core.Path.{_≡_, refl, sym, ap, ap₂, subst, _∙_}
-use mathlib.Core.Bool.{true, false}
+use mathlib.Core.Path.{_≡_, refl, sym, ap, subst, _∙_}
 use mathlib.Core.List.{List, [], _∷_, _++_, List·Memᴰ}
 use mathlib.Core.Logic.{_≢_}
 use Prim.Native.Nat.{ℕ, _<_}
 use borrow.Author.Tests.{ne-eqb}
 use lib.IntN.{ℤ}
-use lib.ListN.{length, take, drop}
+use lib.ListN.{length}
 use Rattle.nest.specs.declared.LoopNest.{LoopNest}
-use Rattle.nest.specs.declared.Inspection.{Inspection}
 use Rattle.nest.specs.Nest.{emptyNest}
 use Rattle.nest.specs.Points.{pointsOf}
 use Rattle.nest.specs.Refusals.{number, refusal, iterations, OneShort, tableAfter, Order, Answered, numbersOf, nestOrder, nestNumbers, Checks, Inspects}
 use Rattle.nest.proofs.Answers.{answered-listed, nest-answered}
 use Rattle.nest.proofs.Entries.{same-table}
 use Rattle.nest_text.specs.Fields.{Bytes}
-use Rattle.nest_text.specs.declared.Reading.{Reading}
 use Rattle.nest_text.specs.declared.Writing.{Writing}
-use Rattle.nest_text.specs.Text.{textOf, readRefusal, readNest, writeRefusal, writtenLength, written, writeOrder, Puts, Reads, Writes}
+use Rattle.nest_text.specs.Text.{textOf, readRefusal, readNest, writeRefusal, writtenLength, written, writeOrder, Puts, Reads}
 use Rattle.nest_text.specs.Form.{readOrder}
 use Rattle.nest_text.proofs.Answers.{write-answered, read-answered, read-numbers}
 use Rattle.rows.specs.declared.Span.{Span}
@@ -32,7 +29,7 @@ use Rattle.partition.specs.Partition.{stepsOf, blocksOf}
 use Rattle.mapping.specs.Mapping.{processorsOf}
 use Rattle.planner.specs.declared.Planning.{Planning}
 use Rattle.planner.specs.Plan.{planOrder, planAnswer, refusedWith, Tables, tablesRefusal, Plans}
-use Rattle.planner.specs.Listing.{planText, listOrder, Lists}
+use Rattle.planner.specs.Listing.{planText, listOrder}
 use Rattle.planner.proofs.Answers.{plan-answered, list-answered}
 use Rattle.execution.specs.declared.Answer.{Answer}
 use Rattle.execution.specs.Rules.{Move, compute, deliver, Effect, refuse, iteration, message, answer, Layout}

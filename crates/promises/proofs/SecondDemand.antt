@@ -2,18 +2,16 @@
 -- Assumes nothing.
 use mathlib.Core.Path.{_≡_, refl, sym, ap, ap₂, subst, _∙_}
 use mathlib.Core.Bool.{true, false}
-use mathlib.Core.List.{List, [], _++_}
-use mathlib.Core.Logic.{_↔_}
+use mathlib.Core.List.{List, _++_}
 use Prim.Native.Nat.{ℕ, suc, _^_, _<_, _≤_}
 use native.Mathlib.Omega.{arith}
 use lib.IntN.{pos, _+ℤ_}
-use lib.ListN.{length, getD, take, drop, length-append, List·getD-append}
+use lib.ListN.{length, getD, take, drop, List·getD-append}
 use lib.Seq.{take-append-le, take-all}
 use borrow.Author.Tests.{eq-eqb}
 use Rattle.integers.proofs.ListFacts.{getD-map}
 use Rattle.nest.specs.declared.LoopNest.{LoopNest}
-use Rattle.nest.specs.Nest.{toℕ, cleared}
-use Rattle.nest.specs.Points.{pointsOf}
+use Rattle.nest.specs.Nest.{toℕ}
 use Rattle.nest.specs.declared.Inspection.{Inspection}
 use Rattle.nest.specs.Refusals.{refusal, shortBuffer, tableAfter, Order, Answered, nestOrder}
 use Rattle.nest.proofs.Answers.{answered-unique, nest-answered}
@@ -38,7 +36,7 @@ use Rattle.execution.proofs.Demand.{plan-number, plan-accepted}
 use Rattle.nest_text.specs.Fields.{Bytes}
 use Rattle.nest_text.specs.declared.Reading.{Reading}
 use Rattle.nest_text.specs.declared.Writing.{Writing}
-use Rattle.nest_text.specs.Text.{textOf, readRefusal, readNest, writeRefusal, writtenLength, written, writeOrder, Puts, Reads, Writes}
+use Rattle.nest_text.specs.Text.{textOf, readRefusal, readNest, writeRefusal, writtenLength, written, writeOrder, Puts, Writes}
 use Rattle.nest_text.specs.Form.{readOrder}
 use Rattle.nest_text.proofs.Answers.{read-answered, write-answered}
 use Rattle.rows.specs.declared.Span.{Span}

@@ -7,14 +7,11 @@ use mathlib.Core.Logic.{_≢_, _↔_}
 use Prim.Native.Nat.{ℕ}
 use lib.IntN.{ℤ}
 use Rattle.nest.specs.declared.LoopNest.{LoopNest}
-use Rattle.nest.specs.declared.Inspection.{Inspection}
 use Rattle.nest.specs.Nest.{emptyNest}
 use Rattle.nest.specs.Refusals.{nestNumbers, Checks, Inspects}
 use Rattle.nest_text.specs.Fields.{Bytes}
-use Rattle.nest_text.specs.declared.Reading.{Reading}
 use Rattle.nest_text.specs.declared.Writing.{Writing}
 use Rattle.nest_text.specs.Text.{Reads, Writes}
-use Rattle.rows.specs.declared.Span.{Span}
 use Rattle.rows.specs.Rows.{Locates, Cuts}
 use Rattle.sequential.specs.Sequential.{Fills}
 use Rattle.planner.specs.declared.Planning.{Planning}

@@ -6,7 +6,7 @@ use mathlib.Core.Bool.{true, false}
 use mathlib.Core.List.{List, [], _∷_, _++_, map}
 use mathlib.Core.Logic.{_≢_}
 use Prim.Native.Nat.{ℕ, _+_, _^_, _≤_, _<_}
-use lib.ListN.{length, getD, set, take, drop}
+use lib.ListN.{length, getD, set, drop}
 use Rattle.nest.specs.declared.LoopNest.{LoopNest}
 use Rattle.nest.specs.Nest.{countOf}
 use Rattle.nest.specs.Points.{pointsOf}
@@ -16,12 +16,12 @@ use Rattle.planner.specs.declared.Planning.{Planning}
 use Rattle.planner.specs.Plan.{Tables, Plans}
 use Rattle.execution.specs.declared.Move as asked
 use Rattle.execution.specs.declared.Answer.{Answer}
-use Rattle.execution.specs.Rules.{Move, Effect, answer, Layout}
+use Rattle.execution.specs.Rules.{Move, answer, Layout}
 use Rattle.execution.specs.Machine.{Machine, freshMachine, withIteration, withMessage, layoutOf, computedCount, deliveredCount, allowedCount}
 use Rattle.execution.specs.Words.{SaysList}
 use Rattle.execution.specs.Run.{State, bit}
 use Rattle.execution.specs.Claim.{MoveCall, Calls}
-use Rattle.execution.specs.Entry.{layoutIn, moveOf, numberOf, Makes, EntryCalls, toldBy}
+use Rattle.execution.specs.Entry.{layoutIn, moveOf, numberOf, EntryCalls, toldBy}
 use Rattle.numbers.specs.Numbers.{Asked, askedMove, madeIn, NumberCalls}
 
 -- ---- from what a list of moves starts
