@@ -14,6 +14,7 @@ use Rattle.nest.specs.Refusals.{number, refusal, iterations, OneShort, tableAft
 use Rattle.nest.proofs.Answers.{answered-listed, nest-answered}
 use Rattle.nest.proofs.Entries.{same-table}
 use Rattle.nest_text.specs.Fields.{Bytes}
+use Rattle.nest_text.specs.declared.Reading.{Reading}
 use Rattle.nest_text.specs.declared.Writing.{Writing}
 use Rattle.nest_text.specs.Text.{textOf, readRefusal, readNest, writeRefusal, writtenLength, written, writeOrder, Puts, Reads}
 use Rattle.nest_text.specs.Form.{readOrder}
@@ -35,7 +36,9 @@ use Rattle.execution.specs.declared.Answer.{Answer}
 use Rattle.execution.specs.Rules.{Move, compute, deliver, Effect, refuse, iteration, message, answer, Layout}
 use Rattle.execution.specs.Run.{State, moveEffect, moveAnswer, moveAfter, after}
 use Rattle.execution.specs.Words.{moveOrder}
-use Rattle.execution.specs.Entry.{numberOf, answerOf, Makes}
+use Rattle.execution.specs.declared.Move as asked
+use Rattle.execution.specs.Entry.{moveOf, numberOf, answerOf, Makes}
+use Rattle.numbers.specs.Numbers.{numbersOf as numbersIn, madeIn, ReadsInto, MakesInto}
 use Rattle.execution.proofs.Answers.{move-answered, compute-numbers, deliver-numbers}
 use Rattle.execution.proofs.EntryLaws.{number-answer}
 use Rattle.execution.proofs.Demand.{plan-number}
@@ -232,6 +235,49 @@ module _ (s : LoopNest) (L : Layout) (st : State ℕ) (mv : Move) where
         refused = λ h. kept x (λ z. h (n ∙ z));
       }
 
+-- ---- the exported functions that store an answer as numbers
+
+-- `rowlock_read`
+read-into-one : (text : Bytes) → OneOutcome (λ (o : ℕ × List ℤ). ReadsInto text (o .0) (o .1)) (λ o. o .0) textNumbers (λ o. o .1 ≡ numbersIn emptyNest)
+unfolding read-one
+read-into-one text = record {
+  outcome = (readRefusal text, numbersIn (readNest text));
+  promised = (record { refusal = readRefusal text; nest = readNest text }, refl, refl, refl);
+  no-other = λ o w.
+      let number = w .2 ∙ ap (λ (x : Reading). x .refusal) (w .1) in
+      let nest = w .3 ∙ ap (λ (x : Reading). numbersIn (x .nest)) (w .1) in
+      λ i. (number i, nest i);
+  number-listed = read-one text .number-listed;
+  refused = λ h. ap numbersIn (read-refused text h);
+}
+
+-- `rowlock_move`
+module _ (s : LoopNest) (L : Layout) (st : State ℕ) (what : asked.Move) where
+  -- a refused move made nothing
+  made-nothing : (x : Effect) → answer x ≢ 0 → madeIn (answerOf s (st .values) x) ≡ 0 ∷ 0 ∷ []
+  unfolding answerOf madeIn
+  made-nothing (refuse a) h = refl
+  made-nothing (iteration k) h = absurd (h refl)
+  made-nothing (message k i) h = absurd (h refl)
+
+  move-into-one : OneOutcome (λ (o : ℕ × List ℕ × State ℕ). MakesInto s L st what (o .0) (o .1) (o .2)) (λ o. o .0) (moveNumbers (moveOf what)) (λ o. (o .1 ≡ 0 ∷ 0 ∷ []) × (o .2 ≡ st))
+  unfolding move-one
+  move-into-one =
+      let one = move-one s L st (moveOf what) in
+      let x = moveEffect s L st (moveOf what) in
+      let a = answerOf s (st .values) x in
+      let n = number-answer s (st .values) x in
+      record {
+        outcome = (numberOf a, madeIn a, moveAfter (ruleOf s) s L st (moveOf what));
+        promised = (a, one .promised, refl, refl);
+        no-other = λ o w.
+            let number = w .2 ∙ ap numberOf (w .1 .0) in
+            let made = w .3 ∙ ap madeIn (w .1 .0) in
+            λ i. (number i, made i, w .1 .1 .1 i);
+        number-listed = one .number-listed;
+        refused = λ h. (made-nothing x (λ z. h (n ∙ z)), one .refused h);
+      }
+
 -- ---- demand 1
 pub demand-1 : Demand1
 demand-1 = record {
@@ -248,4 +294,6 @@ demand-1 = record {
   list = λ text old. puts-one (readRefusal text) (planText (readNest text)) old (textNumbers ++ (14 ∷ []))
       (listed (listOrder text (length old)) (textNumbers ++ (14 ∷ [])) (writeRefusal (readRefusal text) (planText (readNest text)) (length old)) (list-numbers text (length old)) (list-answered text (length old)));
   move = move-one;
+  read-into = read-into-one;
+  move-into = move-into-one;
 }

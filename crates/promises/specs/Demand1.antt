@@ -20,7 +20,9 @@ use Rattle.planner.specs.Listing.{Lists}
 use Rattle.execution.specs.declared.Answer.{Answer}
 use Rattle.execution.specs.Rules.{Move, compute, deliver, Layout}
 use Rattle.execution.specs.Run.{State}
-use Rattle.execution.specs.Entry.{numberOf, Makes}
+use Rattle.execution.specs.declared.Move as asked
+use Rattle.execution.specs.Entry.{moveOf, numberOf, Makes}
+use Rattle.numbers.specs.Numbers.{numbersOf, ReadsInto, MakesInto}
 
 -- ---- the refusals of document 01 that each call has, by their numbers, in the order in which they are tested
 
@@ -65,3 +67,7 @@ pub record Demand1 : Type 0 where
       → OneOutcome (λ (o : Writing × Bytes). Lists text old (o .0) (o .1)) (λ o. o .0 .refusal) (textNumbers ++ (14 ∷ [])) (λ o. (o .0 .length ≡ 0) × (o .1 ≡ old))
   pub move : (s : LoopNest) (L : Layout) (st : State ℕ) (mv : Move)
       → OneOutcome (λ (o : Answer × State ℕ). Makes s L st mv (o .0) (o .1)) (λ o. numberOf (o .0)) (moveNumbers mv) (λ o. o .1 ≡ st)
+  -- the two exported functions whose promises are not an entry's word for word: they store as numbers what the entry answers
+  pub read-into : (text : Bytes) → OneOutcome (λ (o : ℕ × List ℤ). ReadsInto text (o .0) (o .1)) (λ o. o .0) textNumbers (λ o. o .1 ≡ numbersOf emptyNest)
+  pub move-into : (s : LoopNest) (L : Layout) (st : State ℕ) (what : asked.Move)
+      → OneOutcome (λ (o : ℕ × List ℕ × State ℕ). MakesInto s L st what (o .0) (o .1) (o .2)) (λ o. o .0) (moveNumbers (moveOf what)) (λ o. (o .1 ≡ 0 ∷ 0 ∷ []) × (o .2 ≡ st))
