@@ -6,13 +6,12 @@ use mathlib.Core.List.{List, [], _∷_, _++_}
 use mathlib.Core.Logic.{_↔_}
 use Prim.Native.Nat.{ℕ, _+_, _*_, _≤_, _<_}
 use native.Mathlib.Omega.{arith}
-use borrow.Author.Tests.{eq-eqb, ne-eqb}
 use lib.ListN.{length, getD, drop, length-append, List·getD-append}
 use Rattle.nest.specs.declared.LoopNest.{LoopNest}
 use Rattle.nest.specs.Nest.{countOf}
 use Rattle.nest.specs.Points.{pointsOf}
-use Rattle.nest.specs.Refusals.{refusal, noRoom}
-use Rattle.nest.proofs.Entries.{orElse-zero, made-table}
+use Rattle.nest.specs.Refusals.{refusal}
+use Rattle.nest.proofs.Entries.{made-table}
 use Rattle.nest.proofs.PointLaws.{source-smaller}
 use Rattle.partition.specs.Partition.{stepsOf}
 use Rattle.partition.proofs.Theorems.{later-step-source, steps-length}
@@ -20,13 +19,13 @@ use Rattle.mapping.specs.Mapping.{processorsOf, isMessage, messageCount}
 use Rattle.mapping.proofs.Theorems.{processors-length, processors-below}
 use Rattle.sequential.specs.Sequential.{Rule, sequential, ruleOf, valuesOf}
 use Rattle.planner.specs.declared.Planning.{Planning}
-use Rattle.planner.specs.Plan.{planRefusal, planAnswer, Tables, tablesRefusal, Plans}
+use Rattle.planner.specs.Plan.{Tables, Plans}
+use Rattle.planner.proofs.PlanLaws.{plan-accepted}
 use Rattle.execution.specs.Rules.{Move, Effect, refuse, iteration, message, answer, Layout, effect}
 use Rattle.execution.specs.Machine.{Machine, freshMachine, machineAfter, machineView, machineAnswer, machineNext, layoutOf, referenceRun, referenceAnswers, computedCount, deliveredCount, messagesOn, allowedCount}
 use Rattle.execution.specs.Run.{State, moveEffect, moveAnswer, after, run, answers}
 use Rattle.execution.specs.Claim.{Causal, Planned, Fresh, Change, one-iteration, one-message, nothing, NoneMissing, NoneAllowed, Complete, Outcome, Calls, no-call, call}
 use Rattle.execution.specs.Entry.{layoutIn}
-use Rattle.execution.proofs.Base.{eq?}
 use Rattle.execution.proofs.MachineLaws.{Ordered, Sound, Valid, fresh-sound, fresh-size, effect-valid, run-sound, run-size, progress, stuck, all-delivered, full-size, none-left, finish}
 use Rattle.execution.proofs.TableLaws.{SameLayout, Kept, begins-with, fresh-kept, kept-holds, kept-accepted, same-effect, written, run-kept, run-answers, machine-append, machine-snoc, run-snoc}
 
@@ -148,21 +147,8 @@ own-messages s = refl
 
 -- ---- from what `plan` promises
 
--- the number in its answer
-pub plan-number : (s : LoopNest) (k : ℕ) → planAnswer s k .refusal ≡ k
-unfolding planAnswer
-plan-number s k = eq? k 0 (λ q. rw (eq-eqb k 0 q, planAnswer) (sym q)) (λ q. rw (ne-eqb k 0 q, planAnswer) refl)
-
 module _ (s : LoopNest) (old : Tables) (r : Planning) (new : Tables) (P : Plans s old r new) (z : r .refusal ≡ 0) where
-  -- a plan that was not refused is of an accepted nest
-  pub plan-accepted : refusal s ≡ 0
-  unfolding planRefusal
-  plan-accepted =
-      let k = tablesRefusal s old in
-      let n : k ≡ 0 = sym (plan-number s k) ∙ ap (λ (x : Planning). x .refusal) (sym (P .0)) ∙ z in
-      orElse-zero (refusal s) (noRoom (length (pointsOf s)) (length (old .steps)) (length (old .blocks)) (length (old .processors)) (length (old .values))) n .0
-
-  -- and its step and processor tables begin with the nest's own
+  -- the step and processor tables of a plan that was not refused begin with the nest's own
   pub plan-planned : Planned (layoutOf s) (layoutIn (new .steps) (new .processors))
   plan-planned = record {
     behind-steps = drop (length (stepsOf s)) (old .steps);
@@ -173,7 +159,7 @@ module _ (s : LoopNest) (old : Tables) (r : Planning) (new : Tables) (P : Plans 
 
   -- Demand 3 on the tables that the call left
   pub plan-outcome : {Val : Type 0} (R : Rule Val) (st₀ : State Val) → Fresh s st₀ → (ms : List Move) → Outcome R s (layoutOf s) (layoutIn (new .steps) (new .processors)) st₀ ms
-  plan-outcome R st₀ fr ms = run-outcome R s (layoutIn (new .steps) (new .processors)) st₀ plan-accepted plan-planned fr ms
+  plan-outcome R st₀ fr ms = run-outcome R s (layoutIn (new .steps) (new .processors)) st₀ (plan-accepted s old r new P z) plan-planned fr ms
 
 -- ---- the weighted sum
 

@@ -26,7 +26,7 @@ use Rattle.planner.specs.Plan.{planRefusal, planAnswer, countsOf, counts
 use Rattle.planner.specs.Rows.{rowOf}
 use Rattle.planner.specs.Listing.{planLines, planText}
 use Rattle.planner.proofs.LineLaws.{lines-behind, nth-small, counts-length}
-use Rattle.planner.proofs.PlanLaws.{number, values-length, accepted-number}
+use Rattle.planner.proofs.PlanLaws.{number, values-length, plan-number}
 use Rattle.planner.proofs.Sizes.{counts-small}
 
 -- a table that starts with n entries has them at its first places
@@ -67,7 +67,7 @@ module _ (s : LoopNest) (ok : refusal s ≡ 0) (n : ℕ) (count : n ≡ length (
   made = P .0 ∙ ap (planAnswer s) none
 
   zero : r .refusal ≡ 0
-  zero = ap (λ (x : Planning). x .refusal) made ∙ accepted-number s
+  zero = ap (λ (x : Planning). x .refusal) made ∙ plan-number s 0
 
   counts-are : countsIn r ≡ countsOf s
   counts-are = ap countsIn made ∙ answer-counts s

@@ -1,13 +1,14 @@
--- The ways out of `plan`. Assumes nothing.
+-- The ways out of `plan`, and what holds of a call that was not refused. Assumes nothing.
 use mathlib.Core.Path.{_≡_, refl, sym, ap, _∙_}
 use mathlib.Core.List.{List, _++_}
-use Prim.Native.Nat.{ℕ}
+use Prim.Native.Nat.{ℕ, zero, suc}
+use native.Mathlib.Omega.{arith}
 use borrow.Author.Tests.{ne-eqb}
 use lib.ListN.{length, drop}
 use Rattle.nest.specs.declared.LoopNest.{LoopNest}
 use Rattle.nest.specs.Points.{pointsOf}
 use Rattle.nest.specs.Refusals.{refusal, noRoom}
-use Rattle.nest.proofs.Entries.{orElse-first, orElse-second, same-table, made-table}
+use Rattle.nest.proofs.Entries.{orElse-first, orElse-second, orElse-zero, same-table, made-table}
 use Rattle.partition.specs.Partition.{stepsOf, blocksOf}
 use Rattle.partition.proofs.Theorems.{steps-length, blocks-length}
 use Rattle.mapping.specs.Mapping.{processorsOf}
@@ -24,14 +25,15 @@ values-length s = loop-length (ruleOf s) s (length (pointsOf s))
 
 -- ---- the ways out
 -- what a refused call answers
-refused-answer : (s : LoopNest) (k : ℕ) → (k ≡ 0 → ⊥) → planAnswer s k ≡ refusedWith k
+pub refused-answer : (s : LoopNest) (k : ℕ) → (k ≡ 0 → ⊥) → planAnswer s k ≡ refusedWith k
 unfolding planAnswer
 refused-answer s k h = rw (planAnswer, ne-eqb k 0 h) refl
 
--- the number of an accepted one
-pub accepted-number : (s : LoopNest) → planAnswer s 0 .refusal ≡ 0
+-- the number that an answer holds
+pub plan-number : (s : LoopNest) (k : ℕ) → planAnswer s k .refusal ≡ k
 unfolding planAnswer
-accepted-number s = refl
+plan-number s zero = refl
+plan-number s (suc k) = rw (planAnswer, ne-eqb (suc k) 0 (λ q. absurd (omega arith))) refl
 
 module _ (s : LoopNest) (a b c d : List ℕ) where
   -- the tables that are lent
@@ -90,4 +92,19 @@ module _ (s : LoopNest) (a b c d : List ℕ) where
     )
       where
         g : r .refusal ≡ 0
-        g = ap (λ (x : Planning). x .refusal) q ∙ accepted-number s
+        g = ap (λ (x : Planning). x .refusal) q ∙ plan-number s 0
+
+-- ---- a call that was not refused
+module _ (s : LoopNest) (old : Tables) (r : Planning) (new : Tables) (P : Plans s old r new) (z : r .refusal ≡ 0) where
+  -- no number was met
+  none-met : tablesRefusal s old ≡ 0
+  none-met = sym (plan-number s (tablesRefusal s old)) ∙ ap (λ (x : Planning). x .refusal) (sym (P .0)) ∙ z
+
+  -- its answer has the counts
+  pub plan-answer : r ≡ planAnswer s 0
+  plan-answer = P .0 ∙ ap (planAnswer s) none-met
+
+  -- its nest is accepted
+  pub plan-accepted : refusal s ≡ 0
+  unfolding planRefusal
+  plan-accepted = orElse-zero (refusal s) (noRoom (length (pointsOf s)) (length (old .steps)) (length (old .blocks)) (length (old .processors)) (length (old .values))) none-met .0

@@ -29,8 +29,9 @@ use Rattle.sequential.proofs.Answers.{fill-answered}
 use Rattle.partition.specs.Partition.{stepsOf, blocksOf}
 use Rattle.mapping.specs.Mapping.{processorsOf}
 use Rattle.planner.specs.declared.Planning.{Planning}
-use Rattle.planner.specs.Plan.{planOrder, planAnswer, refusedWith, Tables, tablesRefusal, Plans}
+use Rattle.planner.specs.Plan.{planOrder, planAnswer, Tables, tablesRefusal, Plans}
 use Rattle.planner.specs.Listing.{planText, listOrder}
+use Rattle.planner.proofs.PlanLaws.{refused-answer, plan-number}
 use Rattle.planner.proofs.Answers.{plan-answered, list-answered}
 use Rattle.execution.specs.declared.Answer.{Answer}
 use Rattle.execution.specs.Rules.{Move, compute, deliver, Effect, refuse, iteration, message, answer, Layout}
@@ -41,7 +42,6 @@ use Rattle.execution.specs.Entry.{moveOf, numberOf, answerOf, Makes}
 use Rattle.numbers.specs.Numbers.{numbersOf as numbersIn, madeIn, ReadsInto, MakesInto}
 use Rattle.execution.proofs.Answers.{move-answered, compute-numbers, deliver-numbers}
 use Rattle.execution.proofs.EntryLaws.{number-answer}
-use Rattle.execution.proofs.Demand.{plan-number}
 use Rattle.promises.specs.Demand1.{textNumbers, moveNumbers, OneOutcome, Demand1}
 
 -- ---- numbers
@@ -156,10 +156,6 @@ fill-one s old = record {
 }
 
 -- `plan`
-plan-refused : (s : LoopNest) (k : ℕ) → k ≢ 0 → planAnswer s k ≡ refusedWith k
-unfolding planAnswer
-plan-refused s k h = rw (planAnswer, ne-eqb k 0 h) refl
-
 module _ (s : LoopNest) (old : Tables) where
   -- what is answered, and the tables that are left
   abbrev planned : Planning
@@ -195,7 +191,7 @@ module _ (s : LoopNest) (old : Tables) where
         (subst (Answered (planOrder s (length (t .steps)) (length (t .blocks)) (length (t .processors)) (length (t .values)))) (sym (plan-number s (tablesRefusal s old)))
         (plan-answered s (length (t .steps)) (length (t .blocks)) (length (t .processors)) (length (t .values))));
     refused = λ h.
-        let e = plan-refused s (tablesRefusal s old) (λ z. h (plan-number s (tablesRefusal s old) ∙ z)) in
+        let e = refused-answer s (tablesRefusal s old) (λ z. h (plan-number s (tablesRefusal s old) ∙ z)) in
         let a = same-table (planned .refusal) (stepsOf s) (old .steps) h in
         let b = same-table (planned .refusal) (blocksOf s) (old .blocks) h in
         let c = same-table (planned .refusal) (processorsOf s) (old .processors) h in

@@ -24,15 +24,14 @@ use Rattle.sequential.specs.Sequential.{ruleOf, valuesOf, fillRefusal, fillOrde
 use Rattle.sequential.proofs.Answers.{fill-answered}
 use Rattle.sequential.proofs.LoopLaws.{loop-value}
 use Rattle.planner.specs.declared.Planning.{Planning}
-use Rattle.planner.specs.Plan.{planRefusal, planOrder, planAnswer, Tables, tablesRefusal, Plans}
+use Rattle.planner.specs.Plan.{planRefusal, planOrder, planAnswer, Tables, Plans}
 use Rattle.planner.specs.Listing.{planText, listOrder}
 use Rattle.planner.proofs.Answers.{plan-answered, list-answered}
-use Rattle.planner.proofs.PlanLaws.{values-length}
+use Rattle.planner.proofs.PlanLaws.{values-length, plan-number, plan-answer, plan-accepted}
 use Rattle.execution.specs.Run.{moveAnswer}
 use Rattle.execution.specs.Words.{moveOrder}
 use Rattle.execution.specs.Entry.{numberOf}
 use Rattle.execution.proofs.Answers.{move-answered}
-use Rattle.execution.proofs.Demand.{plan-number, plan-accepted}
 use Rattle.nest_text.specs.Fields.{Bytes}
 use Rattle.nest_text.specs.declared.Reading.{Reading}
 use Rattle.nest_text.specs.declared.Writing.{Writing}
@@ -54,9 +53,7 @@ module _ (s : LoopNest) (old : Tables) (p : Planning) (t : Tables) (P : Plans s 
 
   -- and the answer has its counts
   counts : p ≡ planAnswer s 0
-  counts =
-      let k = tablesRefusal s old in
-      P .0 ∙ ap (planAnswer s) (sym (plan-number s k) ∙ ap (λ (x : Planning). x .refusal) (sym (P .0)) ∙ z)
+  counts = plan-answer s old p t P z
 
   -- a table that is planned
   table : (planned was now : List ℕ) → length planned ≡ size s → now ≡ tableAfter (p .refusal) planned was → now ≡ planned ++ drop (size s) was

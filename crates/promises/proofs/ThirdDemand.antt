@@ -14,7 +14,8 @@ use Rattle.mapping.specs.Mapping.{messageCount}
 use Rattle.mapping.proofs.Theorems.{message-true, true-message}
 use Rattle.sequential.specs.Sequential.{Rule, ruleOf}
 use Rattle.planner.specs.declared.Planning.{Planning}
-use Rattle.planner.specs.Plan.{planAnswer, tablesRefusal}
+use Rattle.planner.specs.Plan.{planAnswer}
+use Rattle.planner.proofs.PlanLaws.{plan-answer, plan-accepted}
 use Rattle.execution.specs.declared.Move as asked
 use Rattle.execution.specs.declared.Answer.{Answer}
 use Rattle.execution.specs.Rules.{Move, Effect, refuse, iteration, message, answer, Layout, effect}
@@ -26,7 +27,7 @@ use Rattle.execution.specs.Entry.{moveOf, numberOf, EntryCalls, no-entry, entry
 use Rattle.execution.proofs.RuleLaws.{Numbered, effect-number}
 use Rattle.execution.proofs.WordLaws.{list-says}
 use Rattle.execution.proofs.TableLaws.{run-snoc}
-use Rattle.execution.proofs.Demand.{causal, layout-outcome, own-messages, plan-number, plan-accepted, plan-planned, calls-run}
+use Rattle.execution.proofs.Demand.{causal, layout-outcome, own-messages, plan-planned, calls-run}
 use Rattle.execution.proofs.EntryRuns.{entry-calls, entry-told}
 use Rattle.numbers.specs.Numbers.{Asked, askedMove, madeIn, NumberCalls, no-call, next-call}
 use Rattle.promises.specs.Demand3.{FreshState, OneMove, computes-one, delivers-one, changes-nothing, Finished, Comes, OnPlan, Demand3}
@@ -64,13 +65,7 @@ answers-snoc R s L st (m ∷ ms) mv = ap (λ ns. moveAnswer s L st m ∷ ns) (an
 
 -- ---- the plan
 
--- the answer of a call of `plan` that was not refused
-plan-answer : (s : LoopNest) (p : Planning) (L : Layout) → OnPlan s p L → p ≡ planAnswer s 0
-plan-answer s p L on =
-    let k = tablesRefusal s (on .old) in
-    on .plans .0 ∙ ap (planAnswer s) (sym (plan-number s k) ∙ ap (λ (x : Planning). x .refusal) (sym (on .plans .0)) ∙ on .not-refused)
-
--- it counts iterations and messages
+-- its answer counts iterations and messages
 plan-counts : (s : LoopNest) → length (pointsOf s) + messageCount s ≡ planAnswer s 0 .iterations + planAnswer s 0 .messages
 unfolding planAnswer
 plan-counts s = refl
@@ -138,7 +133,7 @@ module _ {Val : Type 0} (R : Rule Val) (s : LoopNest) (p : Planning) (L : Layout
       all-computed = all;
       all-delivered = λ k i hk hi m. c .all-delivered k i hk hi ∙ true-message s (layoutOf s .processors) k i m;
       table = c .table;
-      all-allowed = c .all-allowed ∙ ap (λ z. length (pointsOf s) + z) (own-messages s) ∙ plan-counts s ∙ ap (λ (x : Planning). x .iterations + x .messages) (sym (plan-answer s p L on));
+      all-allowed = c .all-allowed ∙ ap (λ z. length (pointsOf s) + z) (own-messages s) ∙ plan-counts s ∙ ap (λ (x : Planning). x .iterations + x .messages) (sym (plan-answer s (on .old) p (on .new) (on .plans) (on .not-refused)));
     }
 
     comes-run : Comes R s p L st₀ ms numbers last
