@@ -128,6 +128,20 @@ source-missing : (s : LoopNest) (k i : ℕ) → isPoint (pointsOf s) (sourceOf s
 unfolding sourceRank
 source-missing s k i f = rw (sourceRank, f) refl
 
+-- the rank j of the source's vector
+module _ (s : LoopNest) (k i j : ℕ) (e : j ≡ rank (pointsOf s) (source (point s k) (dependence s i))) where
+  -- below the number of iterations it is the source
+  pub rank-found : j < length (pointsOf s) → sourceRank s k i ≡ some j
+  rank-found l =
+      split (isPoint (pointsOf s) (sourceOf s k i)) (λ t. source-there s k i t ∙ ap some (sym e))
+      (λ f. absurd (omega (arith, e, rank-missing s (sourceOf s k i) f)))
+
+  -- and any other number says that there is none
+  pub rank-none : length (pointsOf s) ≤ j → sourceRank s k i ≡ none
+  rank-none l =
+      split (isPoint (pointsOf s) (sourceOf s k i)) (λ t. absurd (omega (arith, e, rank-there s (sourceOf s k i) t .0)))
+      (λ f. source-missing s k i f)
+
 -- the source of iteration k is iteration j exactly if its point is point k less the dependence
 pub source-iff : (s : LoopNest) (k i j : ℕ) → (sourceRank s k i ≡ some j) ↔ ((j < length (pointsOf s)) × (point s j ≡ source (point s k) (dependence s i)))
 source-iff s k i j = (there, back)
@@ -194,17 +208,13 @@ next-in-array s k array next h e q =
 module _ (s : LoopNest) (k i j : ℕ) (array : List ℤ) (h : k < length (pointsOf s)) (p : array ≡ padded maxDepth (point s k))
     (e : j ≡ rank (pointsOf s) (source (part array 0 (depthOf s)) (dependence s i))) where
   -- it is the source's
-  answer-is : j ≡ rank (pointsOf s) (sourceOf s k i)
+  pub answer-is : j ≡ rank (pointsOf s) (source (point s k) (dependence s i))
   answer-is = e ∙ ap (λ (v : Vector). rank (pointsOf s) (source v (dependence s i))) (ap (λ (v : List ℤ). part v 0 (depthOf s)) p ∙ point-in-array s k h)
 
   -- below the number of iterations it is the source
   pub source-found : j < length (pointsOf s) → sourceRank s k i ≡ some j
-  source-found l =
-      split (isPoint (pointsOf s) (sourceOf s k i)) (λ t. source-there s k i t ∙ ap some (sym answer-is))
-      (λ f. absurd (omega (arith, answer-is, rank-missing s (sourceOf s k i) f)))
+  source-found = rank-found s k i j answer-is
 
   -- and any other number says that there is none
   pub source-none : length (pointsOf s) ≤ j → sourceRank s k i ≡ none
-  source-none l =
-      split (isPoint (pointsOf s) (sourceOf s k i)) (λ t. absurd (omega (arith, answer-is, rank-there s (sourceOf s k i) t .0)))
-      (λ f. source-missing s k i f)
+  source-none = rank-none s k i j answer-is

@@ -242,7 +242,7 @@ pub fn distance(lower: i64, index: i64) -> u64
 }
 
 // How many indices a loop has whose limits are not crossed.
-fn extent_of(lower: i64, upper: i64) -> u64
+pub fn extent_of(lower: i64, upper: i64) -> u64
     requires { ⌜ crossed (record { lower = lower; upper = upper }) ≡ false ⌝ }
     ensures { λ r. ⌜ r ≡ extent (record { lower = lower; upper = upper }) ⌝ }
 {

@@ -1,0 +1,4 @@
+-- Keys of vectors.
+pub mod Keys
+-- The loops that are left in a walk.
+pub mod Loops
