@@ -4,12 +4,14 @@ use nest::SHORT_BUFFER;
 ghost use mathlib.Core.Path.{_≡_};
 ghost use mathlib.Core.Bool.{true};
 ghost use mathlib.Core.List.{[], _++_};
-ghost use Prim.Native.Nat.{_*_, _<_, _≤_};
+ghost use Prim.Native.Nat.{ℕ, _*_, _<_, _≤_};
 ghost use lib.IntN.{pos};
 ghost use lib.ListN.{length, getD, take, drop};
-ghost use Rattle.nest.specs.Nest.{toℕ, part, padded, depthOf, countOf, maxDepth, maxBoundary, maxWeight};
+ghost use Rattle.nest.specs.Nest.{toℕ, part, padded, depthOf, countOf, maxDepth, maxDependences, maxIterations, maxBoundary, maxWeight};
 ghost use Rattle.nest.specs.Points.{pointsOf, rank, isPoint, source};
 ghost use Rattle.nest.specs.Refusals.{refusal, dependence};
+ghost use Rattle.sources.specs.Keys.{keysOf, Searchable, Behind};
+ghost use Rattle.sequential.specs.ByKeys.{valueIn};
 ghost use Rattle.sequential.specs.Sequential.{valueOf, loop, ruleOf, Fills};
 
 // Values are below it.
@@ -21,6 +23,14 @@ fn entry_or(values: &[u16], n: usize, j: usize, boundary: u16) -> u16
     ensures { λ r. ⌜ r ≡ getD (take n (now (values .entry))) j boundary ⌝ }
 {
     if j < n { values[j] } else { boundary }
+}
+
+// A weight times entry j of the first n of a table; the boundary value stands for an entry that is none of them.
+fn weighted(values: &[u16], n: usize, j: usize, boundary: u16, weight: usize) -> usize
+    requires { ⌜ (n ≤ length (now values)) × (weight ≤ maxWeight) ⌝ }
+    ensures { λ r. ⌜ (r ≡ weight * getD (take n (now (values .entry))) j boundary) × (r ≤ maxWeight * maxBoundary) ⌝ }
+{
+    weight * entry_or(values, n, j, boundary) as usize
 }
 
 // The weight of dependence i times the value that is read along it at an index point, where the n iterations have these values.
@@ -39,7 +49,7 @@ fn weighted_source(
     let boundary = nest::to_size(s.boundary) as u16;
     let weights = s.weights;
     let weight = nest::to_size(weights[i]);
-    weight * entry_or(values, n, j, boundary) as usize
+    weighted(values, n, j, boundary, weight)
 }
 
 // The value of iteration k of an accepted nest, whose index point is given, where the n iterations have these values: the weighted sum of its source values.
@@ -70,17 +80,80 @@ pub fn value_at(s: LoopNest, n: usize, values: &[u16], k: usize) -> u16
     value_from(s, n, values, point, k)
 }
 
+// The weights of the dependences of an accepted nest, as sizes.
+fn weights_of(s: LoopNest) -> [usize; LoopNest::MAX_DEPENDENCES]
+    requires { ⌜ refusal s ≡ 0 ⌝ }
+    ensures { λ r. ⌜ ((i : ℕ) → i < countOf s → getD r i 0 ≡ toℕ (getD (s .weights) i (pos 0))) ⌝ }
+{
+    let m = nest::to_size(s.count);
+    let weights = s.weights;
+    let mut sizes = [0usize; LoopNest::MAX_DEPENDENCES];
+    for i in 0..m {
+        sizes[i] = nest::to_size(weights[i]);
+    }
+    sizes
+}
+
+// The value of iteration k, where the iterations before it have these values: the weighted sum of its source values. The sources are found by their keys,
+// and the cursors go forward to them.
+fn next_value(
+    keys: &[i64],
+    k: usize,
+    m: usize,
+    distances: &[i64; LoopNest::MAX_DEPENDENCES],
+    weights: &[usize; LoopNest::MAX_DEPENDENCES],
+    boundary: u16,
+    values: &[u16],
+    cursors: &mut [usize; LoopNest::MAX_DEPENDENCES],
+) -> u16
+    requires { ⌜ (k < length (now keys)) × (length (now keys) ≤ maxIterations) × (length (now keys) ≤ length (now values)) × (m ≤ maxDependences) ⌝ }
+    requires { ⌜ ((i : ℕ) → i < m → Searchable (now keys) (getD (now distances) i (pos 0)) × (getD (now weights) i 0 ≤ maxWeight)) ⌝ }
+    requires { ⌜ Behind (now keys) (now distances) k m (now cursors) ⌝ }
+    ensures { λ r. ⌜ r ≡ valueIn (now (keys .entry)) (now (distances .entry)) (now (weights .entry)) boundary (now (values .entry)) k m ⌝ }
+    ensures { λ r. ⌜ Behind (now (keys .entry)) (now (distances .entry)) k m (now (cursors .exit)) ⌝ }
+{
+    let n = keys.len();
+    let mut total = k;
+    for i in 0..m {
+        let j = sources::next_source(keys, k, distances, i, cursors);
+        total = total + weighted(values, n, j, boundary, weights[i]);
+    }
+    (total % MODULUS) as u16
+}
+
+// The values of the iterations of an accepted nest, in loop order, from the keys of its index points.
+fn fill_by_keys(s: LoopNest, keys: &[i64], values: &mut [u16])
+    requires { ⌜ (refusal s ≡ 0) × (now keys ≡ keysOf s) × (length (pointsOf s) ≤ length (now values)) ⌝ }
+    ensures { λ _. ⌜ now (values .exit) ≡ loop (ruleOf s) s (length (pointsOf s)) ++ drop (length (pointsOf s)) (now (values .entry)) ⌝ }
+{
+    let n = keys.len();
+    let m = nest::to_size(s.count);
+    let distances = sources::distances_of(s);
+    let weights = weights_of(s);
+    let boundary = nest::to_size(s.boundary) as u16;
+    let mut cursors = [0usize; LoopNest::MAX_DEPENDENCES];
+    for k in 0..n {
+        values[k] = next_value(
+            keys,
+            k,
+            m,
+            &distances,
+            &weights,
+            boundary,
+            values,
+            &mut cursors,
+        );
+    }
+}
+
 // The values of the n iterations of an accepted nest, in loop order.
 fn fill_values(s: LoopNest, n: usize, values: &mut [u16])
     requires { ⌜ (refusal s ≡ 0) × (n ≡ length (pointsOf s)) × (n ≤ length (now values)) ⌝ }
     ensures { λ _. ⌜ now (values .exit) ≡ loop (ruleOf s) s n ++ drop n (now (values .entry)) ⌝ }
 {
-    let mut point = nest::point_of(s, 0);
-    for k in 0..n {
-        values[k] = value_from(s, n, values, point, k);
-        let next = nest::next_point(s, point);
-        point = next;
-    }
+    let mut keys = [0i64; LoopNest::MAX_ITERATIONS];
+    sources::keys_into(s, &mut keys);
+    fill_by_keys(s, &keys[..n], values);
 }
 
 // The values of the sequential loop into a lent table, which has an entry for each iteration; answers 0, or the number of the first refusal, 2 to 14,

@@ -1,97 +1,58 @@
--- `fill_values` meets its contract. The loop's invariant: the values of the first k iterations, and what stood behind them; the index point is that of iteration k. Assumes nothing.
+-- `fill_values` meets its contract. Assumes nothing.
 use borrow.Author.Needs.{needs}
-use mathlib.Core.Path.{_≡_, ap, _∙_}
-use mathlib.Core.List.{[]}
-use Prim.Native.Nat.{_-_, _<_, _≤_}
+use mathlib.Core.Path.{_≡_, sym, ap, _∙_}
+use Prim.Native.Nat.{_≤_}
 use native.Mathlib.Omega.{arith}
-use lib.ListN.{length, getD}
-use Rattle.nest.specs.Nest.{padded, maxDepth}
+use lib.ListN.{length, take, drop, length-take}
 use Rattle.nest.specs.Points.{pointsOf}
-use Rattle.nest.proofs.PointLaws.{few-points, some-points, array-point, next-in-array}
-use Rattle.sequential.proofs.FillLaws.{filledTo, filled-none, filled-length, filled-more}
+use Rattle.nest.proofs.PointLaws.{few-points}
+use Rattle.sources.specs.Keys.{keysOf}
+use Rattle.sources.proofs.Cursors.{keys-front}
+use Rattle.sequential.proofs.FillLaws.{filledTo}
 use Rattle.sequential.proofs.fill_values.Statement.{statement}
 use Rattle.sequential.proofs.fill_values.Tie as tie
 
-abbrev Inv-loop : tie.InvT-loop
-Inv-loop s n values₀ point₀ k₀ values point k = (k ≤ n) × (values ≡ filledTo s values₀ k) × (k < n → point ≡ padded maxDepth (getD (pointsOf s) k []))
+-- the front of the table of keys
+front : (c : tie.After-keys-into) → (c .before .before .before .args .n ≤ length (c .keys-into .last .1 .0)) × (take (c .before .before .before .args .n) (c .keys-into .last .1 .0) ≡ keysOf (c .before .before .before .args .s))
+front c = let d = c .before .before .before in keys-front (d .args .s) (d .pre .0) (c .keys-into .last .1 .0) _ (d .args .n) (c .keys-into .ensures) (d .pre .1)
 
-abbrev μ-loop : tie.MeasureT-loop
-μ-loop s n values₀ point₀ k₀ values point k = n - k
+slice-aggregate-keys-into : tie.Need-slice-aggregate-keys-into
+slice-aggregate-keys-into c = search needs
 
--- the table keeps its length
-kept : (d : tie.At-loop Inv-loop μ-loop) → length (d .loop .values) ≡ length (d .before .before .before .args .values .now)
-kept d =
-    let t = d .before .before .before in
-    ap length (d .loop .inv .1) ∙ filled-length (t .args .s) (t .args .values .now) (d .loop .k) (omega (arith, d .loop .inv .0, t .pre .2))
+keys-into-requires : tie.Need-keys-into-requires
+keys-into-requires c κs = let d = c .before .before in (d .pre .0, few-points (d .args .s) (d .pre .0))
 
-point-of-requires : tie.Need-point-of-requires Inv-loop μ-loop
-point-of-requires c κs = let d = c .before in (d .pre .0, some-points (d .args .s) (d .pre .0))
+array-share-prefix-keys : tie.Need-array-share-prefix-keys
+array-share-prefix-keys c = front (c .before) .0
 
-loop-holds : tie.Need-loop-holds Inv-loop μ-loop
-loop-holds c = let d = c .before .before in (omega arith, filled-none (d .args .s) (d .args .values .now), λ h. c .point-of .ensures)
+slice-aggregate-fill-by-keys : tie.Need-slice-aggregate-fill-by-keys
+slice-aggregate-fill-by-keys c =
+    let k = c .before .before in
+    let l = length-take (k .before .before .before .args .n) (k .keys-into .last .1 .0) in
+    omega (arith, l, front k .0)
 
-value-from-requires : tie.Need-value-from-requires Inv-loop μ-loop
-value-from-requires c κs =
-    let l = c .before .before in
-    let t = l .before .before .before in
-    let k = c .before .loop-test .taken in
-    (t .pre .0, t .pre .1, k, omega (arith, t .pre .2, kept l), l .loop .inv .2 k)
+fill-by-keys-requires : tie.Need-fill-by-keys-requires
+fill-by-keys-requires c κs =
+    let k = c .before .before .before in
+    let d = k .before .before .before in
+    (d .pre .0, front k .1, omega (arith, d .pre .1, d .pre .2))
 
-mul-values : tie.Need-mul-values Inv-loop μ-loop
-mul-values c =
-    let t = c .before .before .before .before .before .before in
-    omega (arith, t .pre .1, few-points (t .args .s) (t .pre .0), c .before .before .loop-test .taken)
+same-length : tie.Need-same-length
+same-length c = search needs
 
-slice-write-values : tie.Need-slice-write-values Inv-loop μ-loop
-slice-write-values c = omega (arith, c .before .before .before .before .before .before .pre .2, kept (c .before .before .before), c .before .before .loop-test .taken)
-
-next-point-requires : tie.Need-next-point-requires Inv-loop μ-loop
-next-point-requires c κs =
-    let l = c .before .before .before in
-    let t = l .before .before .before in
-    let k = c .before .before .loop-test .taken in
-    (t .pre .0, array-point (t .args .s) (l .loop .k) (l .loop .point) (omega (arith, k, t .pre .1)) (l .loop .inv .2 k))
-
-add-k : tie.Need-add-k Inv-loop μ-loop
-add-k c = search needs
-
-loop-less : tie.Need-loop-less Inv-loop μ-loop
-loop-less c = search needs
-
-loop-again : tie.Need-loop-again Inv-loop μ-loop
-loop-again c =
-    let v = c .before in
-    let l = v .before .before .before in
-    let t = l .before .before .before in
-    let k = v .before .before .loop-test .taken in (
-      omega (arith, k),
-      filled-more (t .args .s) (t .args .values .now) (t .pre .0) (l .loop .k) (v .value-from .result) (l .loop .values) (omega (arith, k, t .pre .1)) (omega (arith, k, t .pre .2)) (l .loop .inv .1) (v .value-from .ensures),
-      λ h. next-in-array (t .args .s) (l .loop .k) (l .loop .point) (c .next-point .result) (omega (arith, h, t .pre .1)) (l .loop .inv .2 k) (c .next-point .ensures),
-    )
-
-same-length : tie.Need-same-length Inv-loop μ-loop
-same-length c = kept (c .before)
-
-returns : tie.Need-returns Inv-loop μ-loop
+returns : tie.Need-returns
 returns c =
-    let a = c .before .before .before .before .args in
-    let e : c .before .loop .k ≡ a .n = omega (arith, c .before .loop .inv .0, c .loop-test .left) in
-    c .before .loop .inv .1 ∙ ap (filledTo (a .s) (a .values .now)) e
+    let d = c .before .before .before .before .before .before .before .before .before in
+    c .before .before .fill-by-keys .ensures ∙ ap (filledTo (d .args .s) (d .args .values .now)) (sym (d .pre .1))
 
 pub fill-values-spec : {M : Type 1} → statement M
 fill-values-spec =
     tie.close
     (tie.spec
-    Inv-loop
-    μ-loop
-    point-of-requires
-    loop-holds
-    value-from-requires
-    mul-values
-    slice-write-values
-    next-point-requires
-    add-k
-    loop-less
-    loop-again
+    slice-aggregate-keys-into
+    keys-into-requires
+    array-share-prefix-keys
+    slice-aggregate-fill-by-keys
+    fill-by-keys-requires
     same-length
     returns)

@@ -1,0 +1,18 @@
+-- The weighted sum of an iteration's sources, which are found in a table of keys; proofs/KeyLaws.antt shows that it is the nest's own.
+-- Assumes nothing.
+use mathlib.Core.List.{List}
+use Prim.Native.Nat.{ℕ, _+_, _*_, _%_}
+use lib.IntN.{ℤ, pos}
+use lib.ListN.{length, getD, take}
+use Rattle.integers.specs.Lists.{tab}
+use Rattle.sources.specs.Keys.{sourceIn}
+use Rattle.sequential.specs.Sequential.{sum, modulus}
+
+module _ (keys distances : List ℤ) (weights : List ℕ) (boundary : ℕ) (values : List ℕ) (k : ℕ) where
+  -- the weight of dependence i times what is read along it
+  unfoldable pub termIn : ℕ → ℕ
+  termIn i = getD weights i 0 * getD (take (length keys) values) (sourceIn keys k (getD distances i (pos 0))) boundary
+
+  -- the value of iteration k, with m dependences
+  unfoldable pub valueIn : ℕ → ℕ
+  valueIn m = (k + sum (tab termIn m)) % modulus
