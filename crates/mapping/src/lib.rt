@@ -9,9 +9,11 @@ ghost use lib.IntN.{ℤ, pos, natAbs, _-ℤ_};
 ghost use lib.ListN.{length, getD, set, take, drop};
 ghost use lib.Signed.{_≤ℤ_};
 ghost use Rattle.integers.specs.Lists.{tab, count, firsts};
-ghost use Rattle.nest.specs.Nest.{toℕ, countOf, padded, maxDepth, maxCube, maxIterations};
+ghost use Rattle.nest.specs.Nest.{toℕ, countOf, maxDepth, maxDependences, maxCube, maxIterations};
 ghost use Rattle.nest.specs.Points.{pointsOf};
 ghost use Rattle.nest.specs.Refusals.{refusal};
+ghost use Rattle.sources.specs.Keys.{keysOf, Searchable, Behind};
+ghost use Rattle.mapping.specs.ByKeys.{messagesIn};
 ghost use Rattle.mapping.specs.Mapping.{nextTurn, dealt, gray, partOf, joined, isMessage, total};
 ghost use Rattle.mapping.specs.Keys.{maxKey, valuesIn, Keyed, column, spanOf, directionsIn, processorsIn, held, Fits, bitsIn, Dealt, oneIf};
 
@@ -254,22 +256,42 @@ fn is_elsewhere(processors: &[u8], n: usize, k: usize, j: usize) -> usize
     if processors[j] == processors[k] { 0 } else { 1 }
 }
 
-// How many messages there are to iteration k, of n, whose index point is given.
-fn messages_to(
-    s: LoopNest,
-    n: usize,
-    processors: &[u8],
-    point: [i64; LoopNest::MAX_DEPTH],
+// How many messages there are to iteration k. Its sources are found by their keys, and the cursors go forward to them.
+fn next_messages(
+    keys: &[i64],
     k: usize,
+    m: usize,
+    distances: &[i64; LoopNest::MAX_DEPENDENCES],
+    processors: &[u8],
+    cursors: &mut [usize; LoopNest::MAX_DEPENDENCES],
 ) -> usize
-    requires { ⌜ (refusal s ≡ 0) × (n ≡ length (pointsOf s)) × (k < n) × (n ≤ length (now processors)) × (point ≡ padded maxDepth (getD (pointsOf s) k [])) ⌝ }
-    ensures { λ r. ⌜ r ≡ count (isMessage s (take n (now (processors .entry))) k) (tab (λ i. i) (countOf s)) ⌝ }
+    requires { ⌜ (k < length (now keys)) × (length (now keys) ≤ length (now processors)) × (m ≤ maxDependences) ⌝ }
+    requires { ⌜ ((i : ℕ) → i < m → Searchable (now keys) (getD (now distances) i (pos 0))) ⌝ }
+    requires { ⌜ Behind (now keys) (now distances) k m (now cursors) ⌝ }
+    ensures { λ r. ⌜ r ≡ messagesIn (now (keys .entry)) (now (distances .entry)) (now (processors .entry)) k m ⌝ }
+    ensures { λ r. ⌜ Behind (now (keys .entry)) (now (distances .entry)) k m (now (cursors .exit)) ⌝ }
 {
-    let m = nest::to_size(s.count);
+    let n = keys.len();
     let mut number = 0;
     for i in 0..m {
-        let j = nest::source_at(s, point, i);
+        let j = sources::next_source(keys, k, distances, i, cursors);
         number = number + is_elsewhere(processors, n, k, j);
+    }
+    number
+}
+
+// How many messages there are between the processors of the iterations of an accepted nest, from the keys of its index points.
+fn count_messages(s: LoopNest, keys: &[i64], processors: &[u8]) -> usize
+    requires { ⌜ (refusal s ≡ 0) × (now keys ≡ keysOf s) × (length (pointsOf s) ≤ length (now processors)) ⌝ }
+    ensures { λ r. ⌜ r ≡ total (tab (λ k. count (isMessage s (take (length (pointsOf s)) (now (processors .entry))) k) (tab (λ i. i) (countOf s))) (length (pointsOf s))) ⌝ }
+{
+    let n = keys.len();
+    let m = nest::to_size(s.count);
+    let distances = sources::distances_of(s);
+    let mut cursors = [0usize; LoopNest::MAX_DEPENDENCES];
+    let mut number = 0;
+    for k in 0..n {
+        number = number + next_messages(keys, k, m, &distances, processors, &mut cursors);
     }
     number
 }
@@ -279,12 +301,7 @@ pub fn message_count(s: LoopNest, n: usize, processors: &[u8]) -> usize
     requires { ⌜ (refusal s ≡ 0) × (n ≡ length (pointsOf s)) × (n ≤ length (now processors)) ⌝ }
     ensures { λ r. ⌜ r ≡ total (tab (λ k. count (isMessage s (take n (now (processors .entry))) k) (tab (λ i. i) (countOf s))) n) ⌝ }
 {
-    let mut number = 0;
-    let mut point = nest::point_of(s, 0);
-    for k in 0..n {
-        number = number + messages_to(s, n, processors, point, k);
-        let next = nest::next_point(s, point);
-        point = next;
-    }
-    number
+    let mut keys = [0i64; LoopNest::MAX_ITERATIONS];
+    sources::keys_into(s, &mut keys);
+    count_messages(s, &keys[..n], processors)
 }

@@ -1,100 +1,56 @@
--- `message_count` meets its contract. The loop's invariant: the number is that of the messages to the first k iterations; the index point is that of iteration k. Assumes nothing.
+-- `message_count` meets its contract. Assumes nothing.
 use borrow.Author.Needs.{needs}
 use mathlib.Core.Path.{_≡_, sym, ap, _∙_}
-use mathlib.Core.List.{List, []}
-use Prim.Native.Nat.{ℕ, _-_, _<_, _≤_}
+use Prim.Native.Nat.{ℕ, _≤_}
 use native.Mathlib.Omega.{arith}
-use lib.ListN.{take, getD}
-use Rattle.integers.specs.Lists.{tab, count, length-tab}
-use Rattle.nest.specs.declared.LoopNest.{LoopNest}
-use Rattle.nest.specs.Nest.{countOf, padded, maxDepth, maxDependences}
+use lib.ListN.{length, take, length-take}
+use Rattle.integers.specs.Lists.{tab, count}
+use Rattle.nest.specs.Nest.{countOf}
 use Rattle.nest.specs.Points.{pointsOf}
-use Rattle.nest.specs.Refusals.{refusal}
-use Rattle.nest.proofs.Accepted.{count-is}
-use Rattle.nest.proofs.PointLaws.{few-points, some-points, array-point, next-in-array}
+use Rattle.nest.proofs.PointLaws.{few-points}
+use Rattle.sources.specs.Keys.{keysOf}
+use Rattle.sources.proofs.Cursors.{keys-front}
 use Rattle.mapping.specs.Mapping.{isMessage, total}
-use Rattle.mapping.proofs.Messages.{count-most, total-none, total-tab-more, total-most}
 use Rattle.mapping.proofs.message_count.Statement.{statement}
 use Rattle.mapping.proofs.message_count.Tie as tie
 
--- the messages to iteration k, and to the first k
-abbrev row : LoopNest → ℕ → List ℕ → ℕ → ℕ
-row s n ps k = count (isMessage s (take n ps) k) (tab (λ (i : ℕ). i) (countOf s))
+-- the front of the table of keys
+front : (c : tie.After-keys-into) → (c .before .before .before .args .n ≤ length (c .keys-into .last .1 .0)) × (take (c .before .before .before .args .n) (c .keys-into .last .1 .0) ≡ keysOf (c .before .before .before .args .s))
+front c = let d = c .before .before .before in keys-front (d .args .s) (d .pre .0) (c .keys-into .last .1 .0) _ (d .args .n) (c .keys-into .ensures) (d .pre .1)
 
-abbrev Inv-loop : tie.InvT-loop
-Inv-loop s n processors number₀ point₀ k₀ number point k = (k ≤ n) × (number ≡ total (tab (row s n processors) k)) × (k < n → point ≡ padded maxDepth (getD (pointsOf s) k []))
+slice-aggregate-keys-into : tie.Need-slice-aggregate-keys-into
+slice-aggregate-keys-into c = search needs
 
-abbrev μ-loop : tie.MeasureT-loop
-μ-loop s n processors number₀ point₀ k₀ number point k = n - k
+keys-into-requires : tie.Need-keys-into-requires
+keys-into-requires c κs = let d = c .before .before in (d .pre .0, few-points (d .args .s) (d .pre .0))
 
--- an accepted nest has few
-row-most : (s : LoopNest) (n : ℕ) (ps : List ℕ) → refusal s ≡ 0 → (k : ℕ) → row s n ps k ≤ maxDependences
-row-most s n ps ok k = omega (arith, count-most (isMessage s (take n ps) k) (tab (λ (i : ℕ). i) (countOf s)), length-tab (λ (i : ℕ). i) (countOf s), count-is s ok .1)
+array-share-prefix-keys : tie.Need-array-share-prefix-keys
+array-share-prefix-keys c = front (c .before) .0
 
-point-of-requires : tie.Need-point-of-requires Inv-loop μ-loop
-point-of-requires c κs = let d = c .before in (d .pre .0, some-points (d .args .s) (d .pre .0))
+slice-aggregate-count-messages : tie.Need-slice-aggregate-count-messages
+slice-aggregate-count-messages c =
+    let k = c .before .before in
+    let l = length-take (k .before .before .before .args .n) (k .keys-into .last .1 .0) in
+    omega (arith, l, front k .0)
 
-loop-holds : tie.Need-loop-holds Inv-loop μ-loop
-loop-holds c = let a = c .before .before .args in (omega arith, sym (total-none (row (a .s) (a .n) (a .processors .now))), λ h. c .point-of .ensures)
+count-messages-requires : tie.Need-count-messages-requires
+count-messages-requires c κs =
+    let k = c .before .before in
+    let d = k .before .before .before in
+    (d .pre .0, front k .1, omega (arith, d .pre .1, d .pre .2))
 
-messages-to-requires : tie.Need-messages-to-requires Inv-loop μ-loop
-messages-to-requires c κs = let t = c .before .before .before .before in (t .pre .0, t .pre .1, c .loop-test .taken, t .pre .2, c .before .loop .inv .2 (c .loop-test .taken))
-
-add-number : tie.Need-add-number Inv-loop μ-loop
-add-number c =
-    let l = c .before .before .loop in
-    let t = c .before .before .before .before .before in
-    let a = t .args in
-    let r = row (a .s) (a .n) (a .processors .now) in
-    let m = total-most r maxDependences (l .k) (row-most (a .s) (a .n) (a .processors .now) (t .pre .0)) in
-    let o = row-most (a .s) (a .n) (a .processors .now) (t .pre .0) (l .k) in
-    omega (arith, m, o, l .inv .1, c .messages-to .ensures, c .before .loop-test .taken, t .pre .1, few-points (a .s) (t .pre .0))
-
-next-point-requires : tie.Need-next-point-requires Inv-loop μ-loop
-next-point-requires c κs =
-    let l = c .before .before .loop in
-    let t = c .before .before .before .before .before in
-    let k = c .before .loop-test .taken in
-    (t .pre .0, array-point (t .args .s) (l .k) (l .point) (omega (arith, k, t .pre .1)) (l .inv .2 k))
-
-add-k : tie.Need-add-k Inv-loop μ-loop
-add-k c = search needs
-
-loop-less : tie.Need-loop-less Inv-loop μ-loop
-loop-less c = search needs
-
-loop-again : tie.Need-loop-again Inv-loop μ-loop
-loop-again c =
-    let d = c .before in
-    let l = d .before .before .loop in
-    let t = d .before .before .before .before .before in
-    let a = t .args in
-    let k = d .before .loop-test .taken in
-    let m = total-tab-more (row (a .s) (a .n) (a .processors .now)) (l .k) in (
-      omega (arith, k),
-      omega (arith, l .inv .1, d .messages-to .ensures, m),
-      λ h. next-in-array (a .s) (l .k) (l .point) (c .next-point .result) (omega (arith, h, t .pre .1)) (l .inv .2 k) (c .next-point .ensures),
-    )
-
-returns : tie.Need-returns Inv-loop μ-loop
+returns : tie.Need-returns
 returns c =
-    let l = c .before .loop in
-    let a = c .before .before .before .before .args in
-    let e : l .k ≡ a .n = omega (arith, l .inv .0, c .loop-test .left) in
-    l .inv .1 ∙ ap (λ (k : ℕ). total (tab (row (a .s) (a .n) (a .processors .now)) k)) e
+    let a = c .before .before .before .before .before .before .args in
+    c .count-messages .ensures ∙ ap (λ n. total (tab (λ k. count (isMessage (a .s) (take n (a .processors .now)) k) (tab (λ (i : ℕ). i) (countOf (a .s)))) n)) (sym (c .before .before .before .before .before .before .pre .1))
 
 pub message-count-spec : {M : Type 1} → statement M
 message-count-spec =
     tie.close
     (tie.spec
-    Inv-loop
-    μ-loop
-    point-of-requires
-    loop-holds
-    messages-to-requires
-    add-number
-    next-point-requires
-    add-k
-    loop-less
-    loop-again
+    slice-aggregate-keys-into
+    keys-into-requires
+    array-share-prefix-keys
+    slice-aggregate-count-messages
+    count-messages-requires
     returns)
