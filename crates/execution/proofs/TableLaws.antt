@@ -18,7 +18,7 @@ use Rattle.nest.specs.Points.{pointsOf}
 use Rattle.nest.specs.Refusals.{refusal, orElse, shortBuffer, noRoom}
 use Rattle.nest.specs.Sources.{sourceRank}
 use Rattle.nest.proofs.Entries.{orElse-second, long-enough, none-short}
-use Rattle.mapping.specs.Keys.{oneIf}
+use Rattle.mapping.specs.GroupNumbers.{oneIf}
 use Rattle.sequential.specs.Sequential.{Rule, sourceValue, valueOf, sequential}
 use Rattle.sequential.proofs.LoopLaws.{loop-length, loop-value}
 use Rattle.execution.specs.Rules.{Move, Effect, refuse, iteration, message, answer, Layout, effect}

@@ -15,7 +15,7 @@ use Rattle.nest.specs.Points.{pointsOf}
 use Rattle.sources.specs.Keys.{sourceIn}
 use Rattle.sources.proofs.Cursors.{OfNest, keyed-length, keyed-source}
 use Rattle.mapping.specs.ByKeys.{elsewhereIn, messagesIn}
-use Rattle.mapping.specs.Keys.{oneIf}
+use Rattle.mapping.specs.GroupNumbers.{oneIf}
 use Rattle.mapping.specs.Mapping.{isMessage}
 use Rattle.mapping.proofs.Counting.{one-most}
 use Rattle.mapping.proofs.Messages.{message-is, count-none, count-tab-more}

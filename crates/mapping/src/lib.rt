@@ -15,9 +15,9 @@ ghost use Rattle.nest.specs.Refusals.{refusal};
 ghost use Rattle.sources.specs.Keys.{keysOf, Searchable, Behind};
 ghost use Rattle.mapping.specs.ByKeys.{messagesIn};
 ghost use Rattle.mapping.specs.Mapping.{nextTurn, dealt, gray, partOf, joined, isMessage, total};
-ghost use Rattle.mapping.specs.Keys.{maxKey, valuesIn, Keyed, column, spanOf, directionsIn, processorsIn, held, Fits, bitsIn, Dealt, oneIf};
+ghost use Rattle.mapping.specs.GroupNumbers.{maxNumber, valuesIn, HasRows, column, spanOf, directionsIn, processorsIn, held, Fits, bitsIn, Dealt, oneIf};
 
-// Numbers a row of the table of keys: class, q, b, and one that is not read here.
+// Numbers a row of the table of groups: class, q, b, and one that is not read here.
 const ROW: usize = 4;
 
 // How many processors there are at most.
@@ -40,7 +40,7 @@ fn gray_of(p: u64) -> u64
 
 // How far a value is above the least.
 fn height(least: i64, value: i64) -> u64
-    requires { ⌜ (natAbs least ≤ maxKey) × (natAbs value ≤ maxKey) × (least ≤ℤ value) ⌝ }
+    requires { ⌜ (natAbs least ≤ maxNumber) × (natAbs value ≤ maxNumber) × (least ≤ℤ value) ⌝ }
     ensures { λ r. ⌜ r ≡ toℕ (value -ℤ least) ⌝ }
 {
     (value - least) as u64
@@ -48,7 +48,7 @@ fn height(least: i64, value: i64) -> u64
 
 // The Gray code of a value's part in a direction.
 fn code_of(value: i64, least: i64, width: u64, bits: u64) -> u64
-    requires { ⌜ (natAbs least ≤ maxKey) × (natAbs value ≤ maxKey) × (least ≤ℤ value) × (toℕ (value -ℤ least) < width) × (bits ≤ maxCube) ⌝ }
+    requires { ⌜ (natAbs least ≤ maxNumber) × (natAbs value ≤ maxNumber) × (least ≤ℤ value) × (toℕ (value -ℤ least) < width) × (bits ≤ maxCube) ⌝ }
     ensures { λ r. ⌜ r ≡ gray (partOf (record { least = least; width = width; bits = bits }) value) ⌝ }
 {
     gray_of(height(least, value) * power(bits) / width)
@@ -61,14 +61,14 @@ struct Reach {
 }
 
 // The direction whose values are the numbers j of n rows.
-fn reach_in(keys: &[i64], j: usize, n: usize) -> Reach
-    requires { ⌜ (1 ≤ n) × (n ≤ maxIterations) × (j < maxDepth) × Keyed (now keys) n ⌝ }
-    ensures { λ r. ⌜ (r .least ≡ spanOf (column (now (keys .entry)) j n) .least) × (r .width ≡ spanOf (column (now (keys .entry)) j n) .width) ⌝ }
+fn reach_in(rows: &[i64], j: usize, n: usize) -> Reach
+    requires { ⌜ (1 ≤ n) × (n ≤ maxIterations) × (j < maxDepth) × HasRows (now rows) n ⌝ }
+    ensures { λ r. ⌜ (r .least ≡ spanOf (column (now (rows .entry)) j n) .least) × (r .width ≡ spanOf (column (now (rows .entry)) j n) .width) ⌝ }
 {
-    let mut least = keys[j];
+    let mut least = rows[j];
     let mut greatest = least;
     for k in 1..n {
-        let value = keys[k * ROW + j];
+        let value = rows[k * ROW + j];
         least = integers::lesser(least, value);
         greatest = integers::larger(greatest, value);
     }
@@ -85,13 +85,13 @@ struct Spans {
 }
 
 // The directions of n rows.
-fn spans_in(keys: &[i64], n: usize) -> Spans
-    requires { ⌜ (1 ≤ n) × (n ≤ maxIterations) × Keyed (now keys) n ⌝ }
-    ensures { λ r. ⌜ held (r .least) (r .width) (0 ∷ 0 ∷ 0 ∷ []) ≡ directionsIn (now (keys .entry)) n ⌝ }
+fn spans_in(rows: &[i64], n: usize) -> Spans
+    requires { ⌜ (1 ≤ n) × (n ≤ maxIterations) × HasRows (now rows) n ⌝ }
+    ensures { λ r. ⌜ held (r .least) (r .width) (0 ∷ 0 ∷ 0 ∷ []) ≡ directionsIn (now (rows .entry)) n ⌝ }
 {
-    let q = reach_in(keys, 1, n);
-    let b = reach_in(keys, 2, n);
-    let class = reach_in(keys, 0, n);
+    let q = reach_in(rows, 1, n);
+    let b = reach_in(rows, 2, n);
+    let class = reach_in(rows, 0, n);
     Spans {
         least: [q.least, b.least, class.least],
         width: [q.width, b.width, class.width],
@@ -177,50 +177,50 @@ fn deal(width: [u64; LoopNest::MAX_DEPTH], c: usize) -> [u64; LoopNest::MAX_DEPT
 
 // The processor of row k: the codes of its values, joined.
 fn processor_of(
-    keys: &[i64],
+    rows: &[i64],
     k: usize,
     least: [i64; LoopNest::MAX_DEPTH],
     width: [u64; LoopNest::MAX_DEPTH],
     bits: [u64; LoopNest::MAX_DEPTH],
 ) -> u8
-    requires { ⌜ (k < maxIterations) × Keyed (now keys) (k + 1) × (bitsIn bits ≤ maxCube) ⌝ }
-    requires { ⌜ ((j : ℕ) → j < maxDepth → natAbs (getD least j (pos 0)) ≤ maxKey) × Fits (held least width bits) (valuesIn (now keys) k) ⌝ }
-    ensures { λ r. ⌜ r ≡ joined 0 (held least width bits) (valuesIn (now (keys .entry)) k) ⌝ }
+    requires { ⌜ (k < maxIterations) × HasRows (now rows) (k + 1) × (bitsIn bits ≤ maxCube) ⌝ }
+    requires { ⌜ ((j : ℕ) → j < maxDepth → natAbs (getD least j (pos 0)) ≤ maxNumber) × Fits (held least width bits) (valuesIn (now rows) k) ⌝ }
+    ensures { λ r. ⌜ r ≡ joined 0 (held least width bits) (valuesIn (now (rows .entry)) k) ⌝ }
 {
-    let q = code_of(keys[k * ROW + 1], least[0], width[0], bits[0]);
-    let b = code_of(keys[k * ROW + 2], least[1], width[1], bits[1]);
-    let class = code_of(keys[k * ROW + 0], least[2], width[2], bits[2]);
+    let q = code_of(rows[k * ROW + 1], least[0], width[0], bits[0]);
+    let b = code_of(rows[k * ROW + 2], least[1], width[1], bits[1]);
+    let class = code_of(rows[k * ROW + 0], least[2], width[2], bits[2]);
     ((q * power(bits[1]) + b) * power(bits[2]) + class) as u8
 }
 
 // The processor of each of n rows, in directions that hold all of them.
 fn fill_processors(
-    keys: &[i64],
+    rows: &[i64],
     n: usize,
     least: [i64; LoopNest::MAX_DEPTH],
     width: [u64; LoopNest::MAX_DEPTH],
     bits: [u64; LoopNest::MAX_DEPTH],
     processors: &mut [u8],
 )
-    requires { ⌜ (n ≤ maxIterations) × Keyed (now keys) n × (bitsIn bits ≤ maxCube) × (n ≤ length (now processors)) ⌝ }
-    requires { ⌜ ((j : ℕ) → j < maxDepth → natAbs (getD least j (pos 0)) ≤ maxKey) × ((k : ℕ) → k < n → Fits (held least width bits) (valuesIn (now keys) k)) ⌝ }
-    ensures { λ _. ⌜ now (processors .exit) ≡ tab (λ k. joined 0 (held least width bits) (valuesIn (now (keys .entry)) k)) n ++ drop n (now (processors .entry)) ⌝ }
+    requires { ⌜ (n ≤ maxIterations) × HasRows (now rows) n × (bitsIn bits ≤ maxCube) × (n ≤ length (now processors)) ⌝ }
+    requires { ⌜ ((j : ℕ) → j < maxDepth → natAbs (getD least j (pos 0)) ≤ maxNumber) × ((k : ℕ) → k < n → Fits (held least width bits) (valuesIn (now rows) k)) ⌝ }
+    ensures { λ _. ⌜ now (processors .exit) ≡ tab (λ k. joined 0 (held least width bits) (valuesIn (now (rows .entry)) k)) n ++ drop n (now (processors .entry)) ⌝ }
 {
     for k in 0..n {
-        processors[k] = processor_of(keys, k, least, width, bits);
+        processors[k] = processor_of(rows, k, least, width, bits);
     }
 }
 
-// The processors of n iterations whose groups stand in `keys`, in a hypercube of dimension c.
-pub fn processors_into(keys: &[i64], n: usize, c: usize, processors: &mut [u8])
-    requires { ⌜ (1 ≤ n) × (n ≤ maxIterations) × (c ≤ maxCube) × Keyed (now keys) n × (n ≤ length (now processors)) ⌝ }
-    ensures { λ _. ⌜ now (processors .exit) ≡ processorsIn (now (keys .entry)) n c ++ drop n (now (processors .entry)) ⌝ }
+// The processors of n iterations whose groups stand in `rows`, in a hypercube of dimension c.
+pub fn processors_into(rows: &[i64], n: usize, c: usize, processors: &mut [u8])
+    requires { ⌜ (1 ≤ n) × (n ≤ maxIterations) × (c ≤ maxCube) × HasRows (now rows) n × (n ≤ length (now processors)) ⌝ }
+    ensures { λ _. ⌜ now (processors .exit) ≡ processorsIn (now (rows .entry)) n c ++ drop n (now (processors .entry)) ⌝ }
 {
-    let spans = spans_in(keys, n);
+    let spans = spans_in(rows, n);
     let least = spans.least;
     let width = spans.width;
     let bits = deal(width, c);
-    fill_processors(keys, n, least, width, bits, processors);
+    fill_processors(rows, n, least, width, bits, processors);
 }
 
 // 1 for a flag that is not set, 0 for any other.

@@ -20,7 +20,7 @@ use Rattle.numbering.specs.Tables.{row}
 use Rattle.partition.specs.GroupRows.{GroupRow, GroupTable}
 use Rattle.partition.proofs.Theorems.{chosen-bound}
 use Rattle.mapping.specs.Mapping.{inOrder, processorsOf, processorCount, isMessage, total, messageCount}
-use Rattle.mapping.specs.Keys.{Laid, Keyed, valuesIn, keyAt}
+use Rattle.mapping.specs.GroupNumbers.{Laid, HasRows, valuesIn, numberAt}
 use Rattle.mapping.proofs.Theorems.{groups-length, processors-length, table-below, table-processors, table-messages}
 use Rattle.sequential.specs.Sequential.{sequential, loop, ruleOf, valuesOf, filled}
 use Rattle.sequential.proofs.FillLaws.{filledTo, filled-table}
@@ -30,11 +30,11 @@ use Rattle.planner.specs.Plan.{planAnswer}
 -- ---- the table of groups
 
 -- the numbers that the mapping reads are those of the row
-key-is : (keys : List ℤ) (k j : ℕ) → j < maxDepth → keyAt keys j k ≡ getD (row keys k) j (pos 0)
-key-is keys k zero h = ap (λ (a : ℕ). getD keys a (pos 0)) (omega arith)
-key-is keys k (suc zero) h = refl
-key-is keys k (suc (suc zero)) h = refl
-key-is keys k (suc (suc (suc j))) h = absurd (omega arith)
+number-is : (rows : List ℤ) (k j : ℕ) → j < maxDepth → numberAt rows j k ≡ getD (row rows k) j (pos 0)
+number-is rows k zero h = ap (λ (a : ℕ). getD rows a (pos 0)) (omega arith)
+number-is rows k (suc zero) h = refl
+number-is rows k (suc (suc zero)) h = refl
+number-is rows k (suc (suc (suc j))) h = absurd (omega arith)
 
 -- with at most two chosen vectors, a group's values in the order of the directions are q, b and the class
 order-is : (count : ℕ) (x y z : ℤ) (g : Group) → count ≤ 2 → Fill count x y z → pick count x y z ≡ g .along → x ∷ y ∷ pos (g .class) ∷ [] ≡ inOrder g
@@ -47,28 +47,28 @@ order-is (suc (suc zero)) x y z g h f e = ap (λ (l : List ℤ). padded 2 (rever
 order-is (suc (suc (suc n))) x y z g h f e = absurd (omega arith)
 
 -- the values of a row are those of its group
-values-are : (keys : List ℤ) (k count : ℕ) (g : Group) → count ≤ 2 → GroupRow count g (row keys k) → valuesIn keys k ≡ inOrder g
+values-are : (rows : List ℤ) (k count : ℕ) (g : Group) → count ≤ 2 → GroupRow count g (row rows k) → valuesIn rows k ≡ inOrder g
 unfolding valuesIn
-values-are keys k count g h r =
-    ap (λ (a : ℤ). keyAt keys 1 k ∷ keyAt keys 2 k ∷ a ∷ []) (key-is keys k 0 (omega arith) ∙ r .class-is) ∙ order-is count (keyAt keys 1 k) (keyAt keys 2 k) (getD (row keys k) 3 (pos 0)) g h (r .fill) (r .along-is)
+values-are rows k count g h r =
+    ap (λ (a : ℤ). numberAt rows 1 k ∷ numberAt rows 2 k ∷ a ∷ []) (number-is rows k 0 (omega arith) ∙ r .class-is) ∙ order-is count (numberAt rows 1 k) (numberAt rows 2 k) (getD (row rows k) 3 (pos 0)) g h (r .fill) (r .along-is)
 
-module _ (s : LoopNest) (ok : refusal s ≡ 0) (keys₀ keys : List ℤ) (T : GroupTable s keys₀ keys) (h : length (pointsOf s) * 4 ≤ length keys₀) where
+module _ (s : LoopNest) (ok : refusal s ≡ 0) (rows₀ rows : List ℤ) (T : GroupTable s rows₀ rows) (h : length (pointsOf s) * 4 ≤ length rows₀) where
   -- at most two chosen vectors
   few : chosenCount (timeOf s) (dependencesOf s) ≤ 2
   few = omega (arith, chosen-bound s ok, depth-is s ok .1)
 
   -- there is a row for each iteration
-  pub keyed : (n : ℕ) → n ≡ length (pointsOf s) → Keyed keys n
-  keyed n e = record {
+  pub has-rows : (n : ℕ) → n ≡ length (pointsOf s) → HasRows rows n
+  has-rows n e = record {
     room = omega (arith, T .size, h, e);
-    sized = λ k j l b. subst (λ (z : ℤ). natAbs z ≤ 1000000000) (sym (key-is keys k j b)) (getD-within 1000000000 (row keys k) j (T .rows-are k (omega (arith, l, e)) .within));
+    sized = λ k j l b. subst (λ (z : ℤ). natAbs z ≤ 1000000000) (sym (number-is rows k j b)) (getD-within 1000000000 (row rows k) j (T .rows-are k (omega (arith, l, e)) .within));
   }
 
   -- the table holds the groups
-  pub laid : Laid (groupsOf s) keys
+  pub laid : Laid (groupsOf s) rows
   laid = record {
-    keyed = keyed (length (groupsOf s)) (groups-length s);
-    laid = λ k l j b. ap (λ (v : Vector). getD v j (pos 0)) (values-are keys k (chosenCount (timeOf s) (dependencesOf s)) (getD (groupsOf s) k noGroup) few (T .rows-are k (omega (arith, l, groups-length s))));
+    has-rows = has-rows (length (groupsOf s)) (groups-length s);
+    laid = λ k l j b. ap (λ (v : Vector). getD v j (pos 0)) (values-are rows k (chosenCount (timeOf s) (dependencesOf s)) (getD (groupsOf s) k noGroup) few (T .rows-are k (omega (arith, l, groups-length s))));
   }
 
 -- ---- a table that starts with the processors

@@ -49,10 +49,10 @@ fn place_blocks(s: LoopNest, n: usize, blocks: &mut [u16], processors: &mut [u8]
     ensures { λ r. ⌜ now (blocks .exit) ≡ blocksOf s ++ drop n (now (blocks .entry)) ⌝ }
     ensures { λ r. ⌜ now (processors .exit) ≡ processorsOf s ++ drop n (now (processors .entry)) ⌝ }
 {
-    let mut keys = [0i64; LoopNest::MAX_ITERATIONS * 4];
-    let count = partition::blocks_into(s, n, &mut keys, blocks);
+    let mut groups = [0i64; LoopNest::MAX_ITERATIONS * 4];
+    let count = partition::blocks_into(s, n, &mut groups, blocks);
     let cube = nest::to_size(s.cube);
-    mapping::processors_into(&keys, n, cube, processors);
+    mapping::processors_into(&groups, n, cube, processors);
     count
 }
 

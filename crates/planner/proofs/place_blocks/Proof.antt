@@ -11,7 +11,7 @@ use Rattle.nest.specs.Points.{pointsOf}
 use Rattle.nest.proofs.Accepted.{cube-is}
 use Rattle.nest.proofs.PointLaws.{few-points, some-points}
 use Rattle.mapping.proofs.Theorems.{laid-nest}
-use Rattle.planner.proofs.Bridge.{keyed, laid}
+use Rattle.planner.proofs.Bridge.{has-rows, laid}
 use Rattle.planner.proofs.place_blocks.Statement.{statement}
 use Rattle.planner.proofs.place_blocks.Tie as tie
 
@@ -50,7 +50,7 @@ processors-into-requires c κs =
       omega (arith, d .pre .1, some-points s (d .pre .0)),
       omega (arith, d .pre .1, few-points s (d .pre .0)),
       omega (arith, cube z, cube-is s (d .pre .0) .1),
-      keyed s (d .pre .0) _ (b .last .1 .1 .0) (b .ensures .1 .1) (points-room d) (d .args .n) (d .pre .1),
+      has-rows s (d .pre .0) _ (b .last .1 .1 .0) (b .ensures .1 .1) (points-room d) (d .args .n) (d .pre .1),
       d .pre .3,
     )
 
