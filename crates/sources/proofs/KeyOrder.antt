@@ -2,8 +2,8 @@
 -- whose components are below half the base. Assumes nothing.
 use mathlib.Core.Path.{_≡_, refl, sym, ap, ap₂, subst, _∙_}
 use mathlib.Core.Logic.{_⊎_, inl, inr}
-use mathlib.Core.List.{List, [], _∷_, _++_}
-use Prim.Native.Nat.{ℕ, zero, suc, _+_, _*_, _^_, _<_, _≤_}
+use mathlib.Core.List.{[], _∷_, _++_}
+use Prim.Native.Nat.{ℕ, suc, _+_, _*_, _^_, _<_, _≤_}
 use native.Mathlib.Nat as NatL
 use native.Mathlib.Omega.{arith}
 use lib.IntN.{ℤ, pos, negsuc, natAbs, _+ℤ_, _-ℤ_, _*ℤ_}
@@ -11,7 +11,7 @@ use lib.ListN.{length}
 use lib.Signed.{_≤ℤ_, _<ℤ_}
 use Rattle.integers.specs.Bounds.{abs-+, abs-*}
 use Rattle.integers.specs.Lists.{clash, split}
-use Rattle.integers.specs.Linear.{ints, sum, dif, sizes}
+use Rattle.integers.specs.Linear.{ints, sum, sizes}
 use Rattle.integers.specs.Order.{*-mono-r, decide}
 use Rattle.integers.specs.Solver.{var, con, _⊕_, _⊖_, _⊗_, ring}
 use Rattle.integers.specs.Vector.{Vector, plus, times, minus, AllWithin, length-plus, length-times, eqZ, eqV, eqZ-same, eqZ-other, eqV-true, eqV-same}

@@ -1,6 +1,6 @@
 -- The keys of an accepted nest: those of its points increase, the place of the key of a source is the source's rank, and a source has the smaller key.
 -- Assumes nothing.
-use mathlib.Core.Path.{_≡_, refl, sym, ap, subst, subst₂, _∙_}
+use mathlib.Core.Path.{_≡_, sym, ap, subst, subst₂, _∙_}
 use mathlib.Core.Bool.{false}
 use mathlib.Core.List.{[], map}
 use Prim.Native.Nat.{ℕ, _+_, _*_, _<_, _≤_}

@@ -1,8 +1,8 @@
 -- One number for a vector, its key: the components are digits in a base that is larger than twice any of them. So keys are in the order of the vectors, and
--- the key of a difference is the difference of the keys: a source is found by its key in the table of the points' keys. Nothing here knows a depth or limits.
--- Assumes nothing.
+-- the key of a difference is the difference of the keys: a source is found by its key in the table of the points' keys. Nothing here knows limits, and
+-- of depths only the greatest. Assumes nothing.
 use mathlib.Core.List.{List, [], _∷_, map}
-use Prim.Native.Nat.{ℕ, _+_, _^_, _<_, _≤_}
+use Prim.Native.Nat.{ℕ, _^_, _<_, _≤_}
 use lib.IntN.{ℤ, pos, natAbs, _+ℤ_, _-ℤ_, _*ℤ_}
 use lib.ListN.{length, getD}
 use lib.Signed.{_≤ℤ_, _<ℤ_, leZ}

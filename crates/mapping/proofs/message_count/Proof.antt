@@ -6,7 +6,6 @@ use native.Mathlib.Omega.{arith}
 use lib.ListN.{length, take, length-take}
 use Rattle.integers.specs.Lists.{tab, count}
 use Rattle.nest.specs.Nest.{countOf}
-use Rattle.nest.specs.Points.{pointsOf}
 use Rattle.nest.proofs.PointLaws.{few-points}
 use Rattle.sources.specs.Keys.{keysOf}
 use Rattle.sources.proofs.Cursors.{keys-front}

@@ -1,8 +1,8 @@
 -- `next_messages` meets its contract. The loop's invariant: the number is that of the messages along the first i dependences, and no cursor is past its
 -- place. Assumes nothing.
 use borrow.Author.Needs.{needs}
-use mathlib.Core.Path.{_≡_, sym, subst, _∙_}
-use Prim.Native.Nat.{ℕ, _+_, _-_, _<_, _≤_}
+use mathlib.Core.Path.{_≡_, sym, subst}
+use Prim.Native.Nat.{_+_, _-_, _<_, _≤_}
 use native.Mathlib.Omega.{arith}
 use Rattle.nest.specs.Nest.{maxDependences}
 use Rattle.sources.specs.Keys.{Behind}

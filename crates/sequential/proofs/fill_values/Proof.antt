@@ -3,8 +3,7 @@ use borrow.Author.Needs.{needs}
 use mathlib.Core.Path.{_≡_, sym, ap, _∙_}
 use Prim.Native.Nat.{_≤_}
 use native.Mathlib.Omega.{arith}
-use lib.ListN.{length, take, drop, length-take}
-use Rattle.nest.specs.Points.{pointsOf}
+use lib.ListN.{length, take, length-take}
 use Rattle.nest.proofs.PointLaws.{few-points}
 use Rattle.sources.specs.Keys.{keysOf}
 use Rattle.sources.proofs.Cursors.{keys-front}

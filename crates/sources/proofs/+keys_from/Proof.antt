@@ -1,32 +1,29 @@
 -- `keys_from` meets its contract, by the number of loops that are left. The loop's invariant: the table has the keys behind the first q indices of loop k.
 -- Assumes nothing.
-use borrow.Author.Needs.{needs}
 use borrow.Fn.Kinds.{In}
 use borrow.Fn.PlainCycle.{Measures, is, falls, and}
-use mathlib.Core.Path.{_≡_, refl, sym, ap, ap₂, _∙_, subst}
-use mathlib.Core.Bool.{false}
-use mathlib.Core.List.{List, [], _∷_, map}
-use Prim.Native.Nat.{ℕ, zero, suc, _+_, _*_, _-_, _^_, _<_, _≤_}
+use mathlib.Core.Path.{_≡_, sym, ap, _∙_}
+use mathlib.Core.List.{List, [], _∷_}
+use Prim.Native.Nat.{ℕ, _+_, _*_, _-_, _^_, _<_, _≤_}
 use native.Mathlib.Nat as NatL
 use native.Mathlib.Omega.{arith}
 use lib.IntN.{ℤ, pos, natAbs, _+ℤ_, _*ℤ_}
 use lib.ListN.{length, getD}
 use lib.Seq.{sets, length-sets}
-use mir.Facts.{toZ-ofZ, toZ-pos}
+use mir.Facts.{toZ-pos}
 use mir.Syntax.{w64}
 use mir.Val.{toZ}
 use Rattle.integers.specs.Bounds.{told}
-use Rattle.integers.specs.Lists.{any, tab}
+use Rattle.integers.specs.Lists.{tab}
 use Rattle.integers.specs.Machine.{reads, Given, Within, fits, fitsG, read, readG}
 use Rattle.integers.specs.Solver.{var, con, _⊕_, _⊗_}
-use Rattle.nest.specs.Nest.{Limit, limitAt, maxDepth, maxLimit}
+use Rattle.nest.specs.Nest.{Limit, limitAt, maxLimit}
 use Rattle.nest.specs.Points.{extent, points, pointCount}
-use Rattle.nest.specs.Refusals.{crossed}
 use Rattle.nest.proofs.Conditions.{uncrossed}
 use Rattle.nest.proofs.Counted.{extent-within}
-use Rattle.sources.specs.Keys.{base, keyFrom, maxKey}
+use Rattle.sources.specs.Keys.{base, maxKey}
 use Rattle.sources.specs.Loops.{limitsFrom}
-use Rattle.sources.proofs.Walk.{Split, split-loops, no-inner, behindEach, prefixes, prefix-size, prefix-most, walk-none, row-count, row-out, walk-turn, walk-out, walk-room, next-prefix}
+use Rattle.sources.proofs.Walk.{Split, split-loops, behindEach, prefix-size, prefix-most, walk-none, row-count, row-out, walk-turn, walk-out, walk-room, next-prefix}
 use Rattle.sources.proofs.keys_from.Reads as keys-from
 use Rattle.sources.proofs.keys_from.Kinds as keys-from-kinds
 use Rattle.sources.proofs.+keys_from.Lts-keys_from as keys-from-lts

@@ -1,17 +1,14 @@
 -- `distances_of` meets its contract. The loop's invariant: the keys of the first i dependences. Assumes nothing.
 use borrow.Author.Needs.{needs}
-use mathlib.Core.Path.{_≡_, refl, sym, _∙_, ap}
-use mathlib.Core.List.{List}
-use Prim.Native.Nat.{ℕ, _+_, _*_, _-_, _≤_, _<_}
+use mathlib.Core.Path.{_≡_, sym, _∙_, ap}
+use Prim.Native.Nat.{_*_, _-_, _≤_, _<_}
 use native.Mathlib.Omega.{arith}
-use lib.IntN.{ℤ, pos}
-use lib.ListN.{length, getD}
+use lib.ListN.{length}
 use Rattle.integers.specs.Bounds.{told}
-use Rattle.integers.specs.Lists.{tab}
 use Rattle.integers.specs.Machine.{reads}
-use Rattle.nest.specs.Nest.{toℕ, part, padded, depthOf, countOf, dependenceAt, maxDepth, maxDependences, maxLimit}
+use Rattle.nest.specs.Nest.{toℕ, part, depthOf, countOf, dependenceAt, maxDepth, maxDependences}
 use Rattle.nest.proofs.Accepted.{depth-is, count-is, component-size}
-use Rattle.sources.specs.Keys.{key, distancesOf}
+use Rattle.sources.specs.Keys.{key}
 use Rattle.sources.proofs.Arrays.{distancesTo, distances-none, distances-more, distances-all}
 use Rattle.sources.proofs.distances_of.Statement.{statement}
 use Rattle.sources.proofs.distances_of.Tie as tie

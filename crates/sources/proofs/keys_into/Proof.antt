@@ -1,16 +1,13 @@
 -- `keys_into` meets its contract. Assumes nothing.
 use borrow.Author.Needs.{needs}
-use mathlib.Core.Path.{_≡_, sym, _∙_, ap}
+use mathlib.Core.Path.{_≡_, _∙_, ap}
 use mathlib.Core.List.{map}
 use native.Mathlib.Omega.{arith}
 use lib.IntN.{pos}
-use lib.ListN.{length}
 use lib.Seq.{sets}
 use Rattle.integers.specs.Bounds.{told}
-use Rattle.integers.specs.Lists.{any}
 use Rattle.nest.specs.Nest.{toℕ, depthOf}
-use Rattle.nest.specs.Points.{points, pointsOf, pointCount}
-use Rattle.nest.specs.Refusals.{crossed}
+use Rattle.nest.specs.Points.{points}
 use Rattle.nest.proofs.Accepted.{depth-is}
 use Rattle.sources.specs.Keys.{keyFrom}
 use Rattle.sources.specs.Loops.{limitsFrom}
