@@ -1,38 +1,29 @@
 -- The number that a move is answered is what its refusals, in their order, answer; where none of 2 to 14 is met, its effect is what the sentences say.
 -- Assumes nothing.
-use mathlib.Core.Path.{_≡_, refl, sym, ap, subst, _∙_}
+use mathlib.Core.Path.{_≡_, sym, ap, subst, _∙_}
 use mathlib.Core.Logic.{_↔_}
 use mathlib.Core.List.{[], _∷_, _++_}
 use Prim.Native.Nat.{ℕ}
 use native.Mathlib.Omega.{arith}
-use borrow.Author.Tests.{eqb-true, eqb-false, eq-eqb, ne-eqb}
+use borrow.Author.Tests.{eqb-true, eqb-false}
 use lib.Dec.{eqb}
 use lib.ListN.{length}
 use Rattle.integers.specs.Lists.{split}
 use Rattle.nest.specs.declared.LoopNest.{LoopNest}
 use Rattle.nest.specs.Points.{pointsOf}
-use Rattle.nest.specs.Refusals.{refusal, orElse, shortBuffer, noRoom, Answered, numbersOf, FromOne, nestNumbers}
+use Rattle.nest.specs.Refusals.{refusal, orElse, shortBuffer, noRoom, Answered, orderNumbers, FromOne, nestNumbers}
 use Rattle.nest.proofs.Entries.{orElse-first, orElse-second, orElse-assoc}
 use Rattle.nest.proofs.Answers.{answered-append, short-answered, either-answered, room-answered, call-one, call-numbers, call-answered}
-use Rattle.execution.specs.Rules.{Move, compute, deliver, Effect, refuse, answer, Layout, effect}
+use Rattle.execution.specs.Rules.{Move, compute, deliver, Effect, answer, Layout, effect}
 use Rattle.execution.specs.Run.{State, stateView, moveRefusal, stateRefusal, moveEffect, moveAnswer}
 use Rattle.execution.specs.Words.{Says, ruleOrder, BufferShort, moveOrder}
+use Rattle.execution.proofs.RuleLaws.{move-refused, move-rules}
 use Rattle.execution.proofs.WordLaws.{effect-says, says-answered, says-iff}
 
 module _ {Val : Type 0} (s : LoopNest) (L : Layout) (st : State Val) (mv : Move) where
-  -- one of 2 to 14 is the effect
-  pub move-refused : (stateRefusal s L st ≡ 0 → ⊥) → moveEffect s L st mv ≡ refuse (stateRefusal s L st)
-  unfolding moveEffect
-  move-refused h = rw (ne-eqb (stateRefusal s L st) 0 h, moveEffect) refl
-
-  -- where there is none, the effect is by the rules
-  by-rules : stateRefusal s L st ≡ 0 → moveEffect s L st mv ≡ effect s (stateView L st) mv
-  unfolding moveEffect
-  by-rules e = rw (eq-eqb (stateRefusal s L st) 0 e, moveEffect) refl
-
-  -- and an effect is the move's exactly if the sentences say so
+  -- where none of 2 to 14 is met, an effect is the move's exactly if the sentences say so
   pub move-says : stateRefusal s L st ≡ 0 → (x : Effect) → (moveEffect s L st mv ≡ x) ↔ Says s (stateView L st) mv x
-  move-says e x = (λ m. iff .1 (sym (by-rules e) ∙ m), λ w. by-rules e ∙ iff .0 w)
+  move-says e x = (λ m. iff .1 (sym (move-rules s L st mv e) ∙ m), λ w. move-rules s L st mv e ∙ iff .0 w)
     where
       iff : Says s (stateView L st) mv x ↔ (effect s (stateView L st) mv ≡ x)
       iff = says-iff s (stateView L st) mv x
@@ -44,8 +35,8 @@ module _ {Val : Type 0} (s : LoopNest) (L : Layout) (st : State Val) (mv : Move)
   in-two =
       let a = stateRefusal s L st in
       let b = answer (effect s (stateView L st) mv) in
-      split (eqb a 0) (λ t. let e = eqb-true a 0 t in orElse-second a b e ∙ ap answer (sym (by-rules e)))
-      (λ f. let h = eqb-false a 0 f in orElse-first a b h ∙ ap answer (sym (move-refused h)))
+      split (eqb a 0) (λ t. let e = eqb-true a 0 t in orElse-second a b e ∙ ap answer (sym (move-rules s L st mv e)))
+      (λ f. let h = eqb-false a 0 f in orElse-first a b h ∙ ap answer (sym (move-refused s L st mv h)))
 
   -- 14, of five buffers
   abbrev five : ℕ
@@ -79,9 +70,9 @@ module _ {Val : Type 0} (s : LoopNest) (L : Layout) (st : State Val) (mv : Move)
       of (deliver k i) = (omega arith, (omega arith, tt))
 
 -- they are, of a compute
-pub compute-numbers : {Val : Type 0} (s : LoopNest) (L : Layout) (st : State Val) (p : ℕ) → numbersOf (moveOrder s L st (compute p)) ≡ nestNumbers ++ (14 ∷ 18 ∷ 17 ∷ 15 ∷ [])
+pub compute-numbers : {Val : Type 0} (s : LoopNest) (L : Layout) (st : State Val) (p : ℕ) → orderNumbers (moveOrder s L st (compute p)) ≡ nestNumbers ++ (14 ∷ 18 ∷ 17 ∷ 15 ∷ [])
 compute-numbers s L st p = call-numbers s ((14, BufferShort s L st) ∷ ruleOrder s (stateView L st) (compute p))
 
 -- and of a delivery
-pub deliver-numbers : {Val : Type 0} (s : LoopNest) (L : Layout) (st : State Val) (k i : ℕ) → numbersOf (moveOrder s L st (deliver k i)) ≡ nestNumbers ++ (14 ∷ 18 ∷ 16 ∷ [])
+pub deliver-numbers : {Val : Type 0} (s : LoopNest) (L : Layout) (st : State Val) (k i : ℕ) → orderNumbers (moveOrder s L st (deliver k i)) ≡ nestNumbers ++ (14 ∷ 18 ∷ 16 ∷ [])
 deliver-numbers s L st k i = call-numbers s ((14, BufferShort s L st) ∷ ruleOrder s (stateView L st) (deliver k i))

@@ -20,10 +20,10 @@ use Rattle.sequential.specs.Sequential.{ruleOf, valueOf}
 use Rattle.execution.specs.declared.Answer.{Answer}
 use Rattle.execution.specs.declared.Answer.the-variants.{Computed, Delivered, Refused}
 use Rattle.execution.specs.Rules.{every, Move, compute, deliver, Effect, refuse, iteration, message, answer, Layout, View, there, sourceDone, ready, taking, effect}
-use Rattle.execution.specs.Run.{State, bit, stateView, moveRefusal, stateRefusal, moveEffect, moveAnswer, after, moveAfter}
+use Rattle.execution.specs.Run.{State, bit, stateView, moveRefusal, stateRefusal, moveEffect, after}
 use Rattle.execution.specs.Entry.{layoutIn, stateIn, viewIn, rankOr, numberOf, answerOf, Makes}
 use Rattle.execution.proofs.Base.{eq?, and-right, every-same}
-use Rattle.execution.proofs.RuleLaws.{effect-number, Numbered, taking-none, taking-ready, taking-waits, delivering-ready, delivering-refused, compute-there, compute-nowhere, deliver-there, deliver-nowhere}
+use Rattle.execution.proofs.RuleLaws.{effect-number, Numbered, move-refused, move-rules, taking-none, taking-ready, taking-waits, delivering-ready, delivering-refused, compute-there, compute-nowhere, deliver-there, deliver-nowhere}
 use Rattle.execution.proofs.FindingLaws.{takenOf, taken-none, taken-some}
 
 -- ---- by the effect
@@ -181,14 +181,9 @@ module _ (s : LoopNest) (steps processors values done delivered : List ℕ) (mv 
       let f = by-effect s st (moveEffect s L st mv) x r st′ e d in
       (f .0, (ap numberOf (f .0) ∙ number-answer s values (moveEffect s L st mv), f .1))
 
-  -- a refusal before the rules is the effect
-  effect-refused : stateRefusal s L st ≢ 0 → moveEffect s L st mv ≡ refuse (stateRefusal s L st)
-  unfolding moveEffect
-  effect-refused h = rw (ne-eqb (stateRefusal s L st) 0 h, moveEffect) refl
-
-  -- and the answer
+  -- a refusal before the rules is the answer
   refused-before : (a : ℕ) → stateRefusal s L st ≡ a → a ≢ 0 → Makes s L st mv (Refused a) st
-  refused-before a e h = made-by (refuse a) (Refused a) st (effect-refused (λ z. h (sym e ∙ z)) ∙ ap refuse e) (refused s st a)
+  refused-before a e h = made-by (refuse a) (Refused a) st (move-refused s L st mv (λ z. h (sym e ∙ z)) ∙ ap refuse e) (refused s st a)
 
   -- the nest is refused
   pub refused-nest : (a : ℕ) → a ≡ refusal s → a ≢ 0 → Makes s L st mv (Refused a) st
@@ -221,16 +216,11 @@ module _ (s : LoopNest) (steps processors values done delivered : List ℕ) (mv 
         let z = orElse-zero (noRoom n (length steps) (length processors) (length values) (length done)) (shortBuffer n (length delivered)) e in
         (all-enough n (length steps) (length processors) (length values) (length done) (z .0), enough n (length delivered) (z .1))
 
-    -- and the rules decide
-    effect-ruled : stateRefusal s L st ≡ 0 → moveEffect s L st mv ≡ effect s (viewIn steps processors done delivered) mv
-    unfolding moveEffect
-    effect-ruled e = rw (e, moveEffect) refl
-
-    -- on the move that the request names
+    -- and the rules decide on the move that the request names
     pub made-move : room ≡ 0 → (mv₀ : Move) → mv ≡ mv₀ → (r : Answer) (st′ : State ℕ) → Done s st (effect s (viewIn steps processors done delivered) mv₀) r st′ → Makes s L st mv r st′
     made-move e mv₀ q r st′ d =
         let v = viewIn steps processors done delivered in
-        made-by (effect s v mv₀) r st′ (effect-ruled (behind ∙ e) ∙ ap (effect s v) q) d
+        made-by (effect s v mv₀) r st′ (move-rules s L st mv (behind ∙ e) ∙ ap (effect s v) q) d
 
 -- ---- a refused answer has a number other than 0
 

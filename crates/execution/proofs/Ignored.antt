@@ -18,7 +18,7 @@ use Rattle.sequential.specs.Sequential.{Rule}
 use Rattle.sequential.proofs.Ignored.{same-value}
 use Rattle.execution.specs.Rules.{Move, compute, deliver, Effect, refuse, iteration, message, Layout, View, every, least, waits, stepIn, there, sourceDone, taking, delivering, effect}
 use Rattle.execution.specs.Run.{State, stateView, withValue, moveRefusal, stateRefusal, moveEffect, after, moveAfter}
-use Rattle.execution.proofs.Answers.{move-refused}
+use Rattle.execution.proofs.RuleLaws.{move-refused}
 
 module _ {s t : LoopNest} (p : SameParts s t) where
   same-taking : (v : View) (q : ℕ) (o : Option ℕ) → taking s v q o ≡ taking t v q o

@@ -1,4 +1,4 @@
--- The rules way by way: what a move comes to, by what it finds; and that it depends on what it sees of the iterations only.
+-- The rules way by way: what a move comes to, by what it finds; that it depends on what it sees of the iterations only; and when the rules decide on lent tables.
 -- Assumes nothing.
 use mathlib.Core.Path.{_≡_, refl, sym, ap, ap₂, subst, _∙_}
 use mathlib.Core.Bool.{Bool, true, false, not, _&&_}
@@ -16,7 +16,8 @@ use Rattle.nest.specs.Nest.{toℕ, countOf}
 use Rattle.nest.specs.Points.{pointsOf}
 use Rattle.nest.specs.Sources.{sourceRank}
 use Rattle.mapping.specs.Mapping.{crosses, isMessage}
-use Rattle.execution.specs.Rules.{every, least, Move, compute, deliver, Effect, refuse, iteration, message, View, stepIn, processorIn, waits, there, sourceDone, taking, ready, delivering, effect}
+use Rattle.execution.specs.Rules.{every, least, Move, compute, deliver, Effect, refuse, iteration, message, Layout, View, stepIn, processorIn, waits, there, sourceDone, taking, ready, delivering, effect}
+use Rattle.execution.specs.Run.{State, stateView, stateRefusal, moveEffect}
 use Rattle.execution.proofs.Base.{opt, every-same, least-some, least-same}
 
 -- ---- the tests
@@ -215,3 +216,15 @@ module _ (s : LoopNest) (v w : View) (a : Agree s v w)
       ∙ sym (deliver-there s w k i hk hi))
       (λ u. let h = ltb-false i (countOf s) u in deliver-nowhere s v k i (inr h) ∙ sym (deliver-nowhere s w k i (inr h))))
       (λ t. let h = ltb-false k (length (pointsOf s)) t in deliver-nowhere s v k i (inl h) ∙ sym (deliver-nowhere s w k i (inl h)))
+
+-- ---- a move on lent tables
+module _ {Val : Type 0} (s : LoopNest) (L : Layout) (st : State Val) (mv : Move) where
+  -- one of the refusals 2 to 14 is its effect
+  pub move-refused : stateRefusal s L st ≢ 0 → moveEffect s L st mv ≡ refuse (stateRefusal s L st)
+  unfolding moveEffect
+  move-refused h = rw (ne-eqb (stateRefusal s L st) 0 h, moveEffect) refl
+
+  -- where there is none the rules decide
+  pub move-rules : stateRefusal s L st ≡ 0 → moveEffect s L st mv ≡ effect s (stateView L st) mv
+  unfolding moveEffect
+  move-rules e = rw (eq-eqb (stateRefusal s L st) 0 e, moveEffect) refl

@@ -26,7 +26,7 @@ use Rattle.execution.specs.Machine.{Machine, freshMachine, machineAfter,
 use Rattle.execution.specs.Run.{State, bit, stateView, moveRefusal, stateRefusal, moveEffect, moveAnswer, after, moveAfter, run, answers}
 use Rattle.execution.specs.Claim.{Fresh, Holds}
 use Rattle.execution.proofs.Base.{eq?, yes-one, no-zero, byteOf, byte-same, byte-none, byte-more, bit-byte, bit-beyond}
-use Rattle.execution.proofs.RuleLaws.{Agree, effect-same}
+use Rattle.execution.proofs.RuleLaws.{Agree, effect-same, move-rules}
 use Rattle.execution.proofs.MachineLaws.{Ordered, Sound, Valid, effect-valid, next-sound}
 
 -- ---- the value of an iteration depends on its sources only
@@ -68,11 +68,6 @@ unfolding moveRefusal
 no-refusal s ok a b c d e ha hb hc hd he =
     let n = length (pointsOf s) in
     orElse-second (refusal s) (orElse (noRoom n a b c d) (shortBuffer n e)) ok ∙ orElse-second (noRoom n a b c d) (shortBuffer n e) (none-short n a b c d ha hb hc hd) ∙ long-enough n e he
-
--- so the rules decide
-pub move-rules : {Val : Type 0} (s : LoopNest) (L : Layout) (st : State Val) (mv : Move) → stateRefusal s L st ≡ 0 → moveEffect s L st mv ≡ effect s (stateView L st) mv
-unfolding moveEffect
-move-rules s L st mv e = rw (eq-eqb (stateRefusal s L st) 0 e, moveEffect) refl
 
 -- else they are not looked at
 pub move-refused : {Val : Type 0} (s : LoopNest) (L : Layout) (st : State Val) (mv : Move) → stateRefusal s L st ≢ 0 → moveEffect s L st mv ≡ refuse (stateRefusal s L st)
@@ -275,3 +270,9 @@ pub run-snoc : {Val : Type 0} (R : Rule Val) (s : LoopNest) (L : Layout) (st : S
     → run R s L st (ms ++ (mv ∷ [])) ≡ moveAfter R s L (run R s L st ms) mv
 run-snoc R s L st [] mv = refl
 run-snoc R s L st (m ∷ ms) mv = run-snoc R s L (moveAfter R s L st m) ms mv
+
+-- with the number of that move behind the others
+pub answers-snoc : {Val : Type 0} (R : Rule Val) (s : LoopNest) (L : Layout) (st : State Val) (ms : List Move) (mv : Move)
+    → answers R s L st (ms ++ (mv ∷ [])) ≡ answers R s L st ms ++ (moveAnswer s L (run R s L st ms) mv ∷ [])
+answers-snoc R s L st [] mv = refl
+answers-snoc R s L st (m ∷ ms) mv = ap (λ ns. moveAnswer s L st m ∷ ns) (answers-snoc R s L (moveAfter R s L st m) ms mv)

@@ -1,5 +1,6 @@
--- Demand 3 as one statement about a whole list of moves, on any layout that is `Causal`; the planner's is one. The other hypotheses are that the nest is accepted, `Planned` and
--- `Fresh`; the conclusion is `Outcome`. proofs/Demand.antt proves it of every accepted nest.
+-- Demand 3 as one statement about a whole list of moves, on any layout that is `Causal`; the planner's is one. The other
+-- hypotheses are that the nest is accepted, `Planned` and `Fresh`; the conclusion is `Outcome`. proofs/Demand.antt proves
+-- it of every accepted nest.
 -- Assumes nothing.
 use mathlib.Core.Path.{_≡_}
 use mathlib.Core.Bool.{true, false}
@@ -20,11 +21,13 @@ use Rattle.execution.specs.Run.{State, bit, withValue, withBit, stateRef
 
 -- ---- hypotheses
 
--- a layout that a nest can be run on: a step and a processor for each iteration, every dependence leads to a later step, and each processor is one of the machine's
+-- a layout that a nest can be run on: a step and a processor for each iteration, every dependence leads to a later step,
+-- and each processor is one of the machine's
 pub record Causal (s : LoopNest) (M : Layout) : Type 0 where
   pub steps-each : length (M .steps) ≡ length (pointsOf s)
   pub processors-each : length (M .processors) ≡ length (pointsOf s)
-  pub sooner : (k i j : ℕ) → k < length (pointsOf s) → i < countOf s → sourceRank s k i ≡ some j → getD (M .steps) j 0 < getD (M .steps) k 0
+  pub sooner : (k i j : ℕ) → k < length (pointsOf s) → i < countOf s → sourceRank s k i ≡ some j
+      → getD (M .steps) j 0 < getD (M .steps) k 0
   pub housed : (k : ℕ) → k < length (pointsOf s) → getD (M .processors) k 0 < 2 ^ toℕ (s .cube)
 
 -- lent tables begin with those of a layout, whatever stands behind them
@@ -67,7 +70,8 @@ pub record Holds {Val : Type 0} (R : Rule Val) (s : LoopNest) (st₀ : State Val
 
 -- A move that finds the machine at b and the state at st answers a number and leaves another machine and state: it computes one iteration that was missing, or delivers
 -- one message that was not delivered, and changes nothing else; a refused one changes nothing.
-pub data Change {Val : Type 0} (R : Rule Val) (s : LoopNest) (M : Layout) (b : Machine) (st : State Val) : ℕ → Machine → State Val → Type 0 where
+pub data Change {Val : Type 0} (R : Rule Val) (s : LoopNest) (M : Layout) (b : Machine) (st : State Val)
+    : ℕ → Machine → State Val → Type 0 where
   one-iteration : {k : ℕ} {x : Val} → k < length (pointsOf s) → b .computed k ≡ false → ((d : Val) → x ≡ getD (sequential R s) k d)
       → Change R s M b st 0 (withIteration b k) (withValue st k x)
   one-message : {k i : ℕ} → k < length (pointsOf s) → i < countOf s → isMessage s (M .processors) k i ≡ true → b .delivered k i ≡ false
@@ -98,7 +102,8 @@ pub record Outcome {Val : Type 0} (R : Rule Val) (s : LoopNest) (M L : Layout) (
   pub holds : Holds R s st₀ (referenceRun s M ms) (run R s L st₀ ms)
   -- each move of the list computes one iteration or delivers one message and changes nothing else; a refused one changes nothing
   pub each-move : (front back : List Move) (mv : Move) → ms ≡ front ++ (mv ∷ back)
-      → Change R s M (referenceRun s M front) (run R s L st₀ front) (moveAnswer s L (run R s L st₀ front) mv) (referenceRun s M (front ++ (mv ∷ []))) (run R s L st₀ (front ++ (mv ∷ [])))
+      → Change R s M (referenceRun s M front) (run R s L st₀ front) (moveAnswer s L (run R s L st₀ front) mv)
+      (referenceRun s M (front ++ (mv ∷ []))) (run R s L st₀ (front ++ (mv ∷ [])))
   -- none of the refusals 2 to 14 comes up, at any move
   pub no-refusal : (front back : List Move) → ms ≡ front ++ back → stateRefusal s L (run R s L st₀ front) ≡ 0
   -- allowed moves = computed iterations + delivered messages
@@ -110,8 +115,10 @@ pub record Outcome {Val : Type 0} (R : Rule Val) (s : LoopNest) (M L : Layout) (
   pub none-allowed : NoneAllowed s L (run R s L st₀ ms) → NoneMissing s (referenceRun s M ms)
   pub none-missing : NoneMissing s (referenceRun s M ms) → NoneAllowed s L (run R s L st₀ ms)
   -- when no move is allowed, and likewise when no iteration is missing, the run is complete
-  pub complete-unless-allowed : NoneAllowed s L (run R s L st₀ ms) → Complete R s M st₀ (referenceRun s M ms) (run R s L st₀ ms) (answers R s L st₀ ms)
-  pub complete-unless-missing : NoneMissing s (referenceRun s M ms) → Complete R s M st₀ (referenceRun s M ms) (run R s L st₀ ms) (answers R s L st₀ ms)
+  pub complete-unless-allowed : NoneAllowed s L (run R s L st₀ ms)
+      → Complete R s M st₀ (referenceRun s M ms) (run R s L st₀ ms) (answers R s L st₀ ms)
+  pub complete-unless-missing : NoneMissing s (referenceRun s M ms)
+      → Complete R s M st₀ (referenceRun s M ms) (run R s L st₀ ms) (answers R s L st₀ ms)
 
 -- ---- calls
 
@@ -119,8 +126,8 @@ pub record Outcome {Val : Type 0} (R : Rule Val) (s : LoopNest) (M L : Layout) (
 abbrev pub MoveCall : {Val : Type 0} → Rule Val → LoopNest → Layout → State Val → Move → ℕ → State Val → Type 0
 MoveCall R s L st mv a st′ = (a ≡ moveAnswer s L st mv) × (st′ ≡ moveAfter R s L st mv)
 
--- A list of such calls, each with the same nest and tables and with the state as the call before left it. proofs/Demand.antt shows that the numbers and the last state are those of
--- `answers` and `run`.
+-- A list of such calls, each with the same nest and tables and with the state as the call before left it.
+-- proofs/Demand.antt shows that the numbers and the last state are those of `answers` and `run`.
 pub data Calls {Val : Type 0} (R : Rule Val) (s : LoopNest) (L : Layout) : State Val → List Move → List ℕ → State Val → Type 0 where
   no-call : {st : State Val} → Calls R s L st [] [] st
   call : {st st′ last : State Val} {mv : Move} {ms : List Move} {a : ℕ} {numbers : List ℕ} → MoveCall R s L st mv a st′

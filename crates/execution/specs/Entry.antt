@@ -55,10 +55,12 @@ answerOf s values (message k i) = Delivered (record { rank = k; dependence = i }
 
 -- ---- calls of the entry
 
--- what a call of `make_move` promises that finds this layout and state, answers r and leaves the state st′: the answer, its number, and the state
+-- what a call of `make_move` promises that finds this layout and state, answers r and leaves the state st′: the answer,
+-- its number, and the state
 abbrev pub Makes : LoopNest → Layout → State ℕ → Move → Answer → State ℕ → Type 0
 Makes s L st mv r st′ =
-    (r ≡ answerOf s (st .values) (moveEffect s L st mv)) × ((numberOf r ≡ moveAnswer s L st mv) × (st′ ≡ moveAfter (ruleOf s) s L st mv))
+    (r ≡ answerOf s (st .values) (moveEffect s L st mv))
+    × ((numberOf r ≡ moveAnswer s L st mv) × (st′ ≡ moveAfter (ruleOf s) s L st mv))
 
 -- a list of calls of `make_move`, each with the same nest and tables and with the state as the call before left it
 pub data EntryCalls (s : LoopNest) (L : Layout) : State ℕ → List asked.Move → List Answer → State ℕ → Type 0 where
@@ -68,7 +70,8 @@ pub data EntryCalls (s : LoopNest) (L : Layout) : State ℕ → List asked.Move 
 
 -- ---- the answers in full
 
--- how an effect of the reference machine is told: a refused move by its number, a computed iteration by its rank and the sequential loop's value, a delivered message by its rank and dependence
+-- how an effect of the reference machine is told: a refused move by its number, a computed iteration by its rank and the
+-- sequential loop's value, a delivered message by its rank and dependence
 unfoldable pub toldBy : LoopNest → Effect → Answer
 toldBy s (refuse number) = Refused number
 toldBy s (iteration k) = Computed (record { rank = k; value = getD (valuesOf s) k 0 })

@@ -44,7 +44,8 @@ Idle s v p = (k : ℕ) → k < length (pointsOf s) → processorIn v k ≡ p →
 
 -- a source of the iteration that processor p takes is an iteration and not there
 abbrev pub SourceAbsent : LoopNest → View → ℕ → Type 0
-SourceAbsent s v p = (k : ℕ) × (i : ℕ) × (j : ℕ) × Takes s v p k × (i < countOf s) × (sourceRank s k i ≡ some j) × Absent v p k i j
+SourceAbsent s v p =
+    (k : ℕ) × (i : ℕ) × (j : ℕ) × Takes s v p k × (i < countOf s) × (sourceRank s k i ≡ some j) × Absent v p k i j
 
 -- the rank is no iteration or the dependence number at least m
 abbrev pub NoPlace : LoopNest → ℕ → ℕ → Type 0
@@ -90,8 +91,11 @@ BufferShort s L st =
 abbrev pub moveOrder : {Val : Type 0} → LoopNest → Layout → State Val → Move → Order
 moveOrder s L st mv = nestOrder s ++ ((14, BufferShort s L st) ∷ ruleOrder s (stateView L st) mv)
 
--- a whole list of moves, by the sentences alone: what a machine that holds b answers on this layout, each effect told so, and what it then holds
-pub data SaysList {A : Type 0} (tell : Effect → A) (s : LoopNest) (L : Layout) : Machine → List Move → List A → Machine → Type 0 where
+-- a whole list of moves, by the sentences alone: what a machine that holds b answers on this layout, each effect told so,
+-- and what it then holds
+pub data SaysList {A : Type 0} (tell : Effect → A) (s : LoopNest) (L : Layout)
+    : Machine → List Move → List A → Machine → Type 0 where
   no-move : {b : Machine} → SaysList tell s L b [] [] b
-  next-move : {b last : Machine} {mv : Move} {ms : List Move} {x : Effect} {told : List A} → Says s (machineView L b) mv x → SaysList tell s L (machineAfter b x) ms told last
+  next-move : {b last : Machine} {mv : Move} {ms : List Move} {x : Effect} {told : List A}
+      → Says s (machineView L b) mv x → SaysList tell s L (machineAfter b x) ms told last
       → SaysList tell s L b (mv ∷ ms) (tell x ∷ told) last

@@ -160,7 +160,10 @@ pub fn make_move(
     done: &mut [u8],
     delivered: &mut [u8],
 ) -> Answer
-    ensures { λ r. ⌜ Makes s (layoutIn (now (steps .entry)) (now (processors .entry))) (stateIn (now (values .entry)) (now (done .entry)) (now (delivered .entry))) (moveOf (request .what)) r (stateIn (now (values .exit)) (now (done .exit)) (now (delivered .exit))) ⌝ }
+    ensures { λ r. ⌜ Makes s (layoutIn (now (steps .entry)) (now (processors .entry)))
+        (stateIn (now (values .entry)) (now (done .entry)) (now (delivered .entry)))
+        (moveOf (request .what)) r
+        (stateIn (now (values .exit)) (now (done .exit)) (now (delivered .exit))) ⌝ }
 {
     let known = nest::inspect(s);
     let refusal = known.refusal;

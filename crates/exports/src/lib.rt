@@ -52,7 +52,8 @@ pub extern "C" fn rowlock_read(text: &[u8], numbers: &mut [i64; NUMBERS]) -> u8
 // The text of a nest into a lent buffer, and how many bytes it has; or the number of the first refusal, 2 to 14, with 0 bytes and the buffer as it was.
 #[no_mangle]
 pub extern "C" fn rowlock_write(numbers: &[i64; NUMBERS], out: &mut [u8], bytes: &mut usize) -> u8
-    ensures { λ r. ⌜ Writes (nestIn (now (numbers .entry))) (now (out .entry)) (record { refusal = r; length = now (bytes .exit) }) (now (out .exit)) ⌝ }
+    ensures { λ r. ⌜ Writes (nestIn (now (numbers .entry))) (now (out .entry))
+        (record { refusal = r; length = now (bytes .exit) }) (now (out .exit)) ⌝ }
 {
     let writing = nest_text::write(nest_in(numbers), out);
     *bytes = writing.length;
@@ -93,7 +94,10 @@ pub extern "C" fn rowlock_plan(
     values: &mut [u16],
     counts: &mut [usize; COUNTS],
 ) -> u8
-    ensures { λ r. ⌜ Plans (nestIn (now (numbers .entry))) (tablesIn (now (steps .entry)) (now (blocks .entry)) (now (processors .entry)) (now (values .entry))) (planningFrom r (now (counts .exit))) (tablesIn (now (steps .exit)) (now (blocks .exit)) (now (processors .exit)) (now (values .exit))) ⌝ }
+    ensures { λ r. ⌜ Plans (nestIn (now (numbers .entry)))
+        (tablesIn (now (steps .entry)) (now (blocks .entry)) (now (processors .entry)) (now (values .entry)))
+        (planningFrom r (now (counts .exit)))
+        (tablesIn (now (steps .exit)) (now (blocks .exit)) (now (processors .exit)) (now (values .exit))) ⌝ }
 {
     let answer = planner::plan(nest_in(numbers), steps, blocks, processors, values);
     *counts = [
@@ -110,7 +114,8 @@ pub extern "C" fn rowlock_plan(
 // the buffer as it was.
 #[no_mangle]
 pub extern "C" fn rowlock_list(text: &[u8], out: &mut [u8], bytes: &mut usize) -> u8
-    ensures { λ r. ⌜ Lists (now (text .entry)) (now (out .entry)) (record { refusal = r; length = now (bytes .exit) }) (now (out .exit)) ⌝ }
+    ensures { λ r. ⌜ Lists (now (text .entry)) (now (out .entry))
+        (record { refusal = r; length = now (bytes .exit) }) (now (out .exit)) ⌝ }
 {
     let listing = planner::list(text, out);
     *bytes = listing.length;
@@ -134,7 +139,10 @@ pub extern "C" fn rowlock_move(
     delivered: &mut [u8],
     made: &mut [usize; 2],
 ) -> u8
-    ensures { λ r. ⌜ MakesInto (nestIn (now (numbers .entry))) (layoutIn (now (steps .entry)) (now (processors .entry))) (stateIn (now (values .entry)) (now (done .entry)) (now (delivered .entry))) (moveIn kind first second) r (now (made .exit)) (stateIn (now (values .exit)) (now (done .exit)) (now (delivered .exit))) ⌝ }
+    ensures { λ r. ⌜ MakesInto (nestIn (now (numbers .entry))) (layoutIn (now (steps .entry)) (now (processors .entry)))
+        (stateIn (now (values .entry)) (now (done .entry)) (now (delivered .entry)))
+        (moveIn kind first second) r (now (made .exit))
+        (stateIn (now (values .exit)) (now (done .exit)) (now (delivered .exit))) ⌝ }
 {
     let what = move_in(kind, first, second);
     let request = Request { what: what };

@@ -11,7 +11,7 @@ use lib.ListN.{length}
 use Rattle.integers.specs.Lists.{split, clash}
 use Rattle.nest.specs.declared.LoopNest.{LoopNest}
 use Rattle.nest.specs.Nest.{toℕ, depthOf, countOf}
-use Rattle.nest.specs.Refusals.{Refusal, number, firstMet, headerOrder, bodyOrder, refusal, Condition, Order, Answered, numbersOf, FromOne, numbered}
+use Rattle.nest.specs.Refusals.{Refusal, number, firstMet, headerOrder, bodyOrder, refusal, Condition, Order, Answered, orderNumbers, FromOne, numbered}
 use Rattle.nest.proofs.Answers.{answered-append, one-append, numbered-answered, numbered-one, call-one, buffer-answered}
 use Rattle.nest_text.specs.Fields.{Bytes}
 use Rattle.nest_text.specs.Text.{textOf, isLine, behind, areLines, headerWidth, widths, headed, headerOf, widthsOf, bodyOf, malformedUnless, readRefusal, writeRefusal, writeOrder}
@@ -131,7 +131,7 @@ module _ (bs : Bytes) where
       nests = numbered (NestMeets bs) bodyOrder
 
   -- so 1 stands twice
-  pub read-numbers : numbersOf (readOrder bs) ≡ 1 ∷ 2 ∷ 3 ∷ 4 ∷ 1 ∷ 5 ∷ 6 ∷ 7 ∷ 8 ∷ 9 ∷ 10 ∷ 11 ∷ 12 ∷ 13 ∷ []
+  pub read-numbers : orderNumbers (readOrder bs) ≡ 1 ∷ 2 ∷ 3 ∷ 4 ∷ 1 ∷ 5 ∷ 6 ∷ 7 ∷ 8 ∷ 9 ∷ 10 ∷ 11 ∷ 12 ∷ 13 ∷ []
   unfolding number
   read-numbers = refl
 

@@ -1,15 +1,15 @@
--- The ways out of a call that writes bytes into a lent buffer: refused before it looks at the buffer, a short buffer, the bytes written.
+-- The ways out of a call that writes bytes into a lent buffer (refused before it looks at the buffer, a short buffer, the bytes written), and what it leaves.
 -- Assumes nothing.
 use mathlib.Core.Path.{_≡_, refl, sym, ap, ap₂, _∙_}
 use mathlib.Core.Bool.{true, false}
 use mathlib.Core.List.{_++_}
-use Prim.Native.Nat.{ℕ, _+_, _≤_, _<_}
+use Prim.Native.Nat.{ℕ, zero, suc, _+_, _≤_, _<_}
 use native.Mathlib.Omega.{arith}
 use borrow.Author.Tests.{eq-eqb, ne-eqb}
 use lib.ListN.{length, drop}
 use lib.Seq.{sets, sets-eq}
-use Rattle.nest.specs.Refusals.{shortBuffer}
-use Rattle.nest.proofs.Entries.{orElse-first, orElse-second, long-enough, too-short, same-table, made-table}
+use Rattle.nest.specs.Refusals.{orElse, shortBuffer}
+use Rattle.nest.proofs.Entries.{orElse-first, orElse-second, orElse-zero, long-enough, too-short, same-table, made-table}
 use Rattle.nest_text.specs.declared.Writing.{Writing}
 use Rattle.nest_text.specs.Fields.{Bytes}
 use Rattle.nest_text.specs.Text.{writeRefusal, writtenLength, written, Puts}
@@ -50,3 +50,42 @@ module _ (number : ℕ) (bytes old : Bytes) where
           ap₂ (λ (a b : ℕ). let r : Writing = record { refusal = a; length = b } in r) (sym none) (p ∙ sym (ap (λ b. elim b as (λ _. ℕ) [ true ↦ length bytes | false ↦ 0 ]) t)),
           q ∙ sets-eq bytes old 0 room ∙ ap (λ k. bytes ++ drop k old) start ∙ sym (made-table (writeRefusal number bytes (length old)) (length bytes) bytes old none refl),
         )
+
+  -- ---- what such a call leaves, by its number
+  module _ (r : Writing) (new : Bytes) (W : Puts number bytes old r new) where
+    -- the number in its answer
+    pub put-number : r .refusal ≡ writeRefusal number bytes (length old)
+    put-number = ap (λ (x : Writing). x .refusal) (W .0)
+
+    -- refused, it wrote nothing
+    pub put-nothing : (writeRefusal number bytes (length old) ≡ 0 → ⊥) → (r .length ≡ 0) × (new ≡ old)
+    unfolding writtenLength written
+    put-nothing h = (
+      ap (λ (x : Writing). x .length) (W .0) ∙ ap (λ b. elim b as (λ _. ℕ) [ true ↦ length bytes | false ↦ 0 ]) (ne-eqb (writeRefusal number bytes (length old)) 0 h),
+      W .1 ∙ same-table (writeRefusal number bytes (length old)) bytes old h,
+    )
+
+    module _ (z : writeRefusal number bytes (length old) ≡ 0) where
+      -- done, it answers how many bytes it wrote
+      pub put-length : r .length ≡ length bytes
+      unfolding writtenLength
+      put-length = ap (λ (x : Writing). x .length) (W .0) ∙ ap (λ b. elim b as (λ _. ℕ) [ true ↦ length bytes | false ↦ 0 ]) (eq-eqb (writeRefusal number bytes (length old)) 0 z)
+
+      -- and they stand in front of what stood behind them
+      pub put-bytes : new ≡ bytes ++ drop (length bytes) old
+      unfolding written
+      put-bytes = W .1 ∙ made-table (writeRefusal number bytes (length old)) (length bytes) bytes old z refl
+
+  -- it has no number of its own only where the call has none
+  pub put-first : writeRefusal number bytes (length old) ≡ 0 → number ≡ 0
+  unfolding writeRefusal
+  put-first z = orElse-zero number (shortBuffer (length bytes) (length old)) z .0
+
+  -- in a buffer that has room it is the call's own
+  pub put-room : length bytes ≤ length old → writeRefusal number bytes (length old) ≡ number
+  unfolding writeRefusal
+  put-room h = by number refl
+    where
+      by : (k : ℕ) → number ≡ k → orElse number (shortBuffer (length bytes) (length old)) ≡ number
+      by zero e = orElse-second number (shortBuffer (length bytes) (length old)) e ∙ long-enough (length bytes) (length old) h ∙ sym e
+      by (suc k) e = orElse-first number (shortBuffer (length bytes) (length old)) (λ z. absurd (omega (arith, e)))

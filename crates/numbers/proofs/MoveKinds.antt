@@ -1,6 +1,5 @@
 -- Each move has its kind; a kind that is no move's is refused with 18, behind 2 to 14, and changes nothing. Assumes nothing.
 use mathlib.Core.Path.{_≡_, refl, ap, _∙_}
-use mathlib.Core.Bool.{true, false}
 use mathlib.Core.Logic.{_≢_}
 use Prim.Native.Nat.{ℕ}
 use borrow.Author.Tests.{eq-eqb, ne-eqb, eqb-true, eqb-false}
@@ -13,10 +12,10 @@ use Rattle.nest.proofs.Accepted.{cube-is}
 use Rattle.nest.proofs.Entries.{orElse-zero}
 use Rattle.sequential.specs.Sequential.{Rule}
 use Rattle.execution.specs.declared.Move.the-variants.{Compute}
-use Rattle.execution.specs.Rules.{compute, deliver, refuse, answer, Layout, effect}
+use Rattle.execution.specs.Rules.{compute, deliver, refuse, answer, Layout}
 use Rattle.execution.specs.Run.{State, stateView, moveRefusal, stateRefusal, moveEffect, moveAnswer, after, moveAfter}
 use Rattle.execution.specs.Entry.{moveOf}
-use Rattle.execution.proofs.Answers.{move-refused}
+use Rattle.execution.proofs.RuleLaws.{move-refused}
 use Rattle.execution.proofs.RuleLaws.{compute-nowhere}
 use Rattle.numbers.specs.Numbers.{computeKind, deliverKind, noProcessor, moveIn}
 

@@ -66,7 +66,8 @@ deliverKind = 2
 abbrev pub noProcessor : ℕ
 noProcessor = 2 ^ maxCube
 
--- the move that is asked for: a compute on a processor, or a delivery for a rank along a dependence; any other kind is a compute on a processor that is not there
+-- the move that is asked for: a compute on a processor, or a delivery for a rank along a dependence; any other kind is a
+-- compute on a processor that is not there
 unfoldable pub moveIn : ℕ → ℕ → ℕ → Move
 moveIn kind a b =
     elim (eqb kind computeKind) [
@@ -105,7 +106,8 @@ ReadsInto text number numbers = (r : Reading) × Reads text r × (number ≡ r .
 
 -- `make_move`: what was done is stored as two numbers
 abbrev pub MakesInto : LoopNest → rules.Layout → State ℕ → Move → ℕ → List ℕ → State ℕ → Type 0
-MakesInto s L st what number made st′ = (r : Answer) × Makes s L st (moveOf what) r st′ × (number ≡ numberOf r) × (made ≡ madeIn r)
+MakesInto s L st what number made st′ =
+    (r : Answer) × Makes s L st (moveOf what) r st′ × (number ≡ numberOf r) × (made ≡ madeIn r)
 
 -- a move as it is asked for on numbers
 pub record Asked : Type 0 where
@@ -117,8 +119,12 @@ pub record Asked : Type 0 where
 abbrev pub askedMove : Asked → Move
 askedMove a = moveIn (a .kind) (a .first) (a .second)
 
--- a list of calls of `rowlock_move`, each with the same nest and tables and with the state as the call before left it: what was asked for, the numbers answered, and what was done
-pub data NumberCalls (s : LoopNest) (L : rules.Layout) : State ℕ → List Asked → List ℕ → List (List ℕ) → State ℕ → Type 0 where
-  no-call : {st : State ℕ} → NumberCalls s L st [] [] [] st
-  next-call : {st st′ last : State ℕ} {a : Asked} {more : List Asked} {n : ℕ} {ns : List ℕ} {made : List ℕ} {mades : List (List ℕ)}
-      → MakesInto s L st (askedMove a) n made st′ → NumberCalls s L st′ more ns mades last → NumberCalls s L st (a ∷ more) (n ∷ ns) (made ∷ mades) last
+-- a list of calls of `rowlock_move`, each with the same nest and tables and with the state as the call before left it:
+-- what was asked for, the numbers answered, and what was done
+pub data NumberCalls (s : LoopNest) (L : rules.Layout)
+    : State ℕ → List Asked → List ℕ → List (List ℕ) → State ℕ → Type 0 where
+  none-asked : {st : State ℕ} → NumberCalls s L st [] [] [] st
+  next-asked : {st st′ last : State ℕ} {a : Asked} {more : List Asked}
+      {n : ℕ} {ns : List ℕ} {made : List ℕ} {mades : List (List ℕ)}
+      → MakesInto s L st (askedMove a) n made st′ → NumberCalls s L st′ more ns mades last
+      → NumberCalls s L st (a ∷ more) (n ∷ ns) (made ∷ mades) last

@@ -1,6 +1,5 @@
 -- What `list` leaves in a buffer with room for the longest listing, and what is printed of it. Assumes nothing.
 use mathlib.Core.Path.{_≡_, refl, sym, ap, subst, _∙_}
-use mathlib.Core.Bool.{true, false}
 use mathlib.Core.List.{[], _∷_, _++_}
 use Prim.Native.Nat.{ℕ, _+_, _≤_}
 use native.Mathlib.Nat.{zero-add}
@@ -14,12 +13,13 @@ use Rattle.io.specs.Counts.{Counts}
 use Rattle.integers.specs.Lists.{split}
 use Rattle.nest.specs.Refusals.{shortBuffer}
 use Rattle.nest.proofs.PointLaws.{few-points}
-use Rattle.nest.proofs.Entries.{orElse-second, orElse-first, long-enough, same-table, made-table}
+use Rattle.nest.proofs.Entries.{orElse-first}
 use Rattle.nest_text.specs.declared.Writing.{Writing}
 use Rattle.nest_text.specs.Fields.{Bytes}
 use Rattle.nest_text.specs.Stored.{Stored}
-use Rattle.nest_text.specs.Text.{line, readRefusal, readNest, writeRefusal, writtenLength, written}
+use Rattle.nest_text.specs.Text.{line, readRefusal, readNest, writeRefusal}
 use Rattle.nest_text.proofs.RoundTrip.{written-read}
+use Rattle.nest_text.proofs.WriteAnswers.{put-number, put-nothing, put-length, put-bytes, put-room}
 use Rattle.nest_text.proofs.WriteLaws.{stored-as, stored-length}
 use Rattle.planner.specs.Listing.{planText, listing, Lists}
 use Rattle.planner.proofs.Sizes.{plan-length}
@@ -48,19 +48,16 @@ module _ (text old : Bytes) (room : 127007 ≤ length old) (r : Writing) (new : 
   abbrev bytes : Bytes
   bytes = planText (readNest text)
 
-  -- the buffer is never short, so the number that is answered is the text's own
+  -- the number of a text that is refused; the buffer has room for the plan of any other
   own-number : r .refusal ≡ readRefusal text
-  unfolding writeRefusal
   own-number =
-      ap (λ (x : Writing). x .refusal) (w .0)
-      ∙ split (eqb (readRefusal text) 0)
-      (λ q. let e = eqb-true (readRefusal text) 0 q in orElse-second (readRefusal text) (shortBuffer (length bytes) (length old)) e ∙ long-enough (length bytes) (length old) (omega (arith, plan-most text e)) ∙ sym e)
-      (λ q. orElse-first (readRefusal text) (shortBuffer (length bytes) (length old)) (eqb-false (readRefusal text) 0 q))
+      put-number (readRefusal text) bytes old r new w
+      ∙ split (eqb (readRefusal text) 0) (λ q. put-room (readRefusal text) bytes old (omega (arith, plan-most text (eqb-true (readRefusal text) 0 q))))
+      (λ q. unfold writeRefusal in orElse-first (readRefusal text) (shortBuffer (length bytes) (length old)) (eqb-false (readRefusal text) 0 q))
 
   -- nothing is written where it is refused
   untouched : (r .refusal ≡ 0 → ⊥) → new ≡ old
-  unfolding written
-  untouched h = w .1 ∙ same-table (writeRefusal (readRefusal text) bytes (length old)) bytes old (λ z. h (ap (λ (x : Writing). x .refusal) (w .0) ∙ z))
+  untouched h = put-nothing (readRefusal text) bytes old r new w (λ z. h (put-number (readRefusal text) bytes old r new w ∙ z)) .1
 
   -- a refused text: the line of its number, at the buffer's start
   pub number-printed : {last : Bytes} {end : ℕ} → (r .refusal ≡ 0 → ⊥) → Stored new 0 (line (pos (r .refusal) ∷ [])) last end → Stored old 0 (listing text) last end
@@ -69,15 +66,13 @@ module _ (text old : Bytes) (room : 127007 ≤ length old) (r : Writing) (new : 
 
   -- an accepted one: its plan
   pub plan-printed : r .refusal ≡ 0 → Stored old 0 (listing text) new (r .length)
-  unfolding written writtenLength
   plan-printed z =
       let e : readRefusal text ≡ 0 = sym own-number ∙ z in
-      let none = sym (ap (λ (x : Writing). x .refusal) (w .0)) ∙ z in
-      let t = eq-eqb (writeRefusal (readRefusal text) bytes (length old)) 0 none in
+      let none = sym (put-number (readRefusal text) bytes old r new w) ∙ z in
       let m = plan-most text e in
       stored-as (sym (listing-plan text e)) (record {
-        bytes = w .1 ∙ made-table (writeRefusal (readRefusal text) bytes (length old)) (length bytes) bytes old none refl ∙ ap (λ k. bytes ++ drop k old) (sym (zero-add (length bytes))) ∙ sym (sets-eq bytes old 0 (omega arith));
-        ends = ap (λ (x : Writing). x .length) (w .0) ∙ ap (λ b. elim b as (λ _. ℕ) [ true ↦ length bytes | false ↦ 0 ]) t ∙ sym (zero-add (length bytes));
+        bytes = put-bytes (readRefusal text) bytes old r new w none ∙ ap (λ k. bytes ++ drop k old) (sym (zero-add (length bytes))) ∙ sym (sets-eq bytes old 0 (omega arith));
+        ends = put-length (readRefusal text) bytes old r new w none ∙ sym (zero-add (length bytes));
       })
 
   -- either way the bytes that are printed lie within the buffer

@@ -73,4 +73,5 @@ Plans s old r new =
     (r ≡ planAnswer s (tablesRefusal s old))
     × ((new .steps ≡ tableAfter (r .refusal) (stepsOf s) (old .steps))
     × ((new .blocks ≡ tableAfter (r .refusal) (blocksOf s) (old .blocks))
-    × ((new .processors ≡ tableAfter (r .refusal) (processorsOf s) (old .processors)) × (new .values ≡ tableAfter (r .refusal) (valuesOf s) (old .values)))))
+    × ((new .processors ≡ tableAfter (r .refusal) (processorsOf s) (old .processors))
+    × (new .values ≡ tableAfter (r .refusal) (valuesOf s) (old .values)))))

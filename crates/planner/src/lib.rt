@@ -95,7 +95,10 @@ pub fn plan(
     processors: &mut [u8],
     values: &mut [u16],
 ) -> Planning
-    ensures { λ r. ⌜ Plans s (tablesIn (now (steps .entry)) (now (blocks .entry)) (now (processors .entry)) (now (values .entry))) r (tablesIn (now (steps .exit)) (now (blocks .exit)) (now (processors .exit)) (now (values .exit))) ⌝ }
+    ensures { λ r. ⌜ Plans s
+        (tablesIn (now (steps .entry)) (now (blocks .entry)) (now (processors .entry)) (now (values .entry)))
+        r
+        (tablesIn (now (steps .exit)) (now (blocks .exit)) (now (processors .exit)) (now (values .exit))) ⌝ }
 {
     let known = nest::inspect(s);
     let refusal = known.refusal;

@@ -10,14 +10,15 @@ use lib.ListN.{length}
 use Rattle.nest.specs.declared.LoopNest.{LoopNest}
 use Rattle.nest.specs.Nest.{emptyNest}
 use Rattle.nest.specs.Points.{pointsOf}
-use Rattle.nest.specs.Refusals.{number, refusal, iterations, OneShort, tableAfter, Order, Answered, numbersOf, nestOrder, nestNumbers, Checks, Inspects}
-use Rattle.nest.proofs.Answers.{answered-listed, nest-answered}
+use Rattle.nest.specs.Refusals.{number, limit, Outside, refusal, iterations, OneShort, tableAfter, Order, Answered, orderNumbers, nestOrder, nestNumbers, Checks, Inspects}
+use Rattle.nest.proofs.Answers.{answered-listed, nest-answered, nest-numbers, call-numbers}
 use Rattle.nest.proofs.Entries.{same-table}
 use Rattle.nest_text.specs.Fields.{Bytes}
 use Rattle.nest_text.specs.declared.Reading.{Reading}
 use Rattle.nest_text.specs.declared.Writing.{Writing}
 use Rattle.nest_text.specs.Text.{textOf, readRefusal, readNest, writeRefusal, writtenLength, written, writeOrder, Puts, Reads}
 use Rattle.nest_text.specs.Form.{readOrder}
+use Rattle.nest_text.proofs.WriteAnswers.{put-nothing}
 use Rattle.nest_text.proofs.Answers.{write-answered, read-answered, read-numbers}
 use Rattle.rows.specs.declared.Span.{Span}
 use Rattle.rows.specs.Rows.{rowRefusal, rowOrder, spanOf, rowOf, Locates, Cuts}
@@ -39,31 +40,19 @@ use Rattle.execution.specs.Run.{State, moveEffect, moveAnswer, moveAfter, after
 use Rattle.execution.specs.Words.{moveOrder}
 use Rattle.execution.specs.declared.Move as asked
 use Rattle.execution.specs.Entry.{moveOf, numberOf, answerOf, Makes}
-use Rattle.numbers.specs.Numbers.{numbersOf as numbersIn, madeIn, ReadsInto, MakesInto}
+use Rattle.numbers.specs.Numbers.{numbersOf, madeIn, ReadsInto, MakesInto}
 use Rattle.execution.proofs.Answers.{move-answered, compute-numbers, deliver-numbers}
 use Rattle.execution.proofs.EntryLaws.{number-answer}
-use Rattle.promises.specs.Demand1.{textNumbers, moveNumbers, OneOutcome, Demand1}
+use Rattle.promises.specs.Demand1.{bufferNumbers, rowNumbers, textNumbers, moveNumbers, OneOutcome, OneWriting, NoCounts, Demand1}
 
 -- ---- numbers
 
 -- what an order answers is 0 or one of its numbers
-listed : (order : Order) (numbers : List ℕ) (k : ℕ) → numbersOf order ≡ numbers → Answered order k → List·Memᴰ k (0 ∷ numbers)
+listed : (order : Order) (numbers : List ℕ) (k : ℕ) → orderNumbers order ≡ numbers → Answered order k → List·Memᴰ k (0 ∷ numbers)
 listed order numbers k e a = subst (λ ns. List·Memᴰ k (0 ∷ ns)) e (answered-listed order k a)
 
--- the numbers of the orders
-check-numbers : (s : LoopNest) → numbersOf (nestOrder s) ≡ nestNumbers
-unfolding number
-check-numbers s = refl
-
-buffer-numbers : (s : LoopNest) (Short : Type 0) → numbersOf (nestOrder s ++ ((14, Short) ∷ [])) ≡ nestNumbers ++ (14 ∷ [])
-unfolding number
-buffer-numbers s Short = refl
-
-row-numbers : (s : LoopNest) (entries : ℕ) (i : ℤ) → numbersOf (rowOrder s entries i) ≡ nestNumbers ++ (14 ∷ 19 ∷ [])
-unfolding number
-row-numbers s entries i = refl
-
-list-numbers : (text : Bytes) (room : ℕ) → numbersOf (listOrder text room) ≡ textNumbers ++ (14 ∷ [])
+-- those of `list`
+list-numbers : (text : Bytes) (room : ℕ) → orderNumbers (listOrder text room) ≡ textNumbers ++ (14 ∷ [])
 unfolding number
 list-numbers text room = refl
 
@@ -75,7 +64,7 @@ check-one s = record {
   outcome = refusal s;
   promised = refl;
   no-other = λ r e. e;
-  number-listed = listed (nestOrder s) nestNumbers (refusal s) (check-numbers s) (nest-answered s);
+  number-listed = listed (nestOrder s) nestNumbers (refusal s) (nest-numbers s) (nest-answered s);
   refused = λ h. tt;
 }
 
@@ -89,7 +78,7 @@ inspect-one s = record {
   outcome = record { refusal = refusal s; iterations = iterations s };
   promised = refl;
   no-other = λ r e. e;
-  number-listed = listed (nestOrder s) nestNumbers (refusal s) (check-numbers s) (nest-answered s);
+  number-listed = listed (nestOrder s) nestNumbers (refusal s) (nest-numbers s) (nest-answered s);
   refused = inspect-refused s;
 }
 
@@ -109,34 +98,28 @@ read-one text = record {
 
 -- a call that writes bytes
 puts-one : (k : ℕ) (bytes old : Bytes) (numbers : List ℕ) → List·Memᴰ (writeRefusal k bytes (length old)) (0 ∷ numbers)
-    → OneOutcome (λ (o : Writing × Bytes). Puts k bytes old (o .0) (o .1)) (λ o. o .0 .refusal) numbers (λ o. (o .0 .length ≡ 0) × (o .1 ≡ old))
-puts-one k bytes old numbers m = record {
-  outcome = (record { refusal = writeRefusal k bytes (length old); length = writtenLength k bytes (length old) }, written k bytes old);
-  promised = (refl, refl);
-  no-other = λ o e. λ i. (e .0 i, e .1 i);
-  number-listed = m;
-  refused = λ h. (
-    unfold writtenLength in rw (ne-eqb (writeRefusal k bytes (length old)) 0 h, writtenLength) refl,
-    unfold written in same-table (writeRefusal k bytes (length old)) bytes old h,
-  );
-}
+    → OneWriting (λ r new. Puts k bytes old r new) numbers old
+puts-one k bytes old numbers m =
+    let r : Writing = record { refusal = writeRefusal k bytes (length old); length = writtenLength k bytes (length old) } in
+    let new = written k bytes old in
+    record { outcome = (r, new); promised = (refl, refl); no-other = λ o e. λ i. (e .0 i, e .1 i); number-listed = m; refused = put-nothing k bytes old r new (refl, refl) }
 
 -- `locate` and `row`
-row-listed : (s : LoopNest) (entries : ℕ) (i : ℤ) → List·Memᴰ (rowRefusal s entries i) (0 ∷ nestNumbers ++ (14 ∷ 19 ∷ []))
-row-listed s entries i = listed (rowOrder s entries i) (nestNumbers ++ (14 ∷ 19 ∷ [])) (rowRefusal s entries i) (row-numbers s entries i) (row-answered s entries i)
+row-listed : (s : LoopNest) (entries : ℕ) (i : ℤ) → List·Memᴰ (rowRefusal s entries i) (0 ∷ rowNumbers)
+row-listed s entries i = listed (rowOrder s entries i) rowNumbers (rowRefusal s entries i) (call-numbers s ((14, entries < length (pointsOf s)) ∷ (19, Outside (limit s 0 .lower) (limit s 0 .upper) i) ∷ [])) (row-answered s entries i)
 
-locate-one : (s : LoopNest) (entries : ℕ) (i : ℤ) → OneOutcome (Locates s entries i) (λ r. r .refusal) (nestNumbers ++ (14 ∷ 19 ∷ [])) (λ r. (r .start ≡ 0) × (r .length ≡ 0))
+locate-one : (s : LoopNest) (entries : ℕ) (i : ℤ) → OneOutcome (Locates s entries i) (λ r. r .refusal) rowNumbers (λ r. (r .start ≡ 0) × (r .length ≡ 0))
 locate-one s entries i = record {
   outcome = spanOf s entries i;
   promised = refl;
   no-other = λ r e. e;
-  number-listed = subst (λ k. List·Memᴰ k (0 ∷ nestNumbers ++ (14 ∷ 19 ∷ []))) (sym (span-refusal s entries i)) (row-listed s entries i);
+  number-listed = subst (λ k. List·Memᴰ k (0 ∷ rowNumbers)) (sym (span-refusal s entries i)) (row-listed s entries i);
   refused = λ h.
       let e = refused-span s entries i (rowRefusal s entries i) refl (λ z. h (span-refusal s entries i ∙ z)) in
       (ap (λ (r : Span). r .start) e, ap (λ (r : Span). r .length) e);
 }
 
-row-one : (s : LoopNest) (table : List ℕ) (i : ℤ) → OneOutcome (λ (o : List ℕ × ℕ). Cuts s table i (o .0) (o .1)) (λ o. o .1) (nestNumbers ++ (14 ∷ 19 ∷ [])) (λ o. o .0 ≡ [])
+row-one : (s : LoopNest) (table : List ℕ) (i : ℤ) → OneOutcome (λ (o : List ℕ × ℕ). Cuts s table i (o .0) (o .1)) (λ o. o .1) rowNumbers (λ o. o .0 ≡ [])
 row-one s table i = record {
   outcome = (rowOf s table i, rowRefusal s (length table) i);
   promised = (refl, refl);
@@ -146,12 +129,12 @@ row-one s table i = record {
 }
 
 -- `fill`
-fill-one : (s : LoopNest) (old : List ℕ) → OneOutcome (λ (o : ℕ × List ℕ). Fills s old (o .0) (o .1)) (λ o. o .0) (nestNumbers ++ (14 ∷ [])) (λ o. o .1 ≡ old)
+fill-one : (s : LoopNest) (old : List ℕ) → OneOutcome (λ (o : ℕ × List ℕ). Fills s old (o .0) (o .1)) (λ o. o .0) bufferNumbers (λ o. o .1 ≡ old)
 fill-one s old = record {
   outcome = (fillRefusal s (length old), filled s old);
   promised = (refl, refl);
   no-other = λ o e. λ i. (e .0 i, e .1 i);
-  number-listed = listed (fillOrder s (length old)) (nestNumbers ++ (14 ∷ [])) (fillRefusal s (length old)) (buffer-numbers s (length old < length (pointsOf s))) (fill-answered s (length old));
+  number-listed = listed (fillOrder s (length old)) bufferNumbers (fillRefusal s (length old)) (call-numbers s ((14, length old < length (pointsOf s)) ∷ [])) (fill-answered s (length old));
   refused = λ h. unfold filled in same-table (fillRefusal s (length old)) (valuesOf s) old h;
 }
 
@@ -179,15 +162,14 @@ module _ (s : LoopNest) (old : Tables) where
       let d = e .1 .1 .1 .1 ∙ ap (λ k. tableAfter k (valuesOf s) (old .values)) n in
       λ i. (e .0 i, record { steps = a i; blocks = b i; processors = c i; values = d i })
 
-  plan-one : OneOutcome (λ (o : Planning × Tables). Plans s old (o .0) (o .1)) (λ o. o .0 .refusal) (nestNumbers ++ (14 ∷ []))
-      (λ o. (o .0 .iterations ≡ 0) × (o .0 .steps ≡ 0) × (o .0 .blocks ≡ 0) × (o .0 .processors ≡ 0) × (o .0 .messages ≡ 0) × (o .1 ≡ old))
+  plan-one : OneOutcome (λ (o : Planning × Tables). Plans s old (o .0) (o .1)) (λ o. o .0 .refusal) bufferNumbers (λ o. NoCounts (o .0) × (o .1 ≡ old))
   plan-one = record {
     outcome = (planned, left);
     promised = (refl, (refl, (refl, (refl, refl))));
     no-other = planned-alone;
     number-listed =
         let t = old in
-        listed (planOrder s (length (t .steps)) (length (t .blocks)) (length (t .processors)) (length (t .values))) (nestNumbers ++ (14 ∷ [])) (planned .refusal) (buffer-numbers s (OneShort (length (pointsOf s)) (length (t .steps)) (length (t .blocks)) (length (t .processors)) (length (t .values))))
+        listed (planOrder s (length (t .steps)) (length (t .blocks)) (length (t .processors)) (length (t .values))) bufferNumbers (planned .refusal) (call-numbers s ((14, OneShort (length (pointsOf s)) (length (t .steps)) (length (t .blocks)) (length (t .processors)) (length (t .values))) ∷ []))
         (subst (Answered (planOrder s (length (t .steps)) (length (t .blocks)) (length (t .processors)) (length (t .values)))) (sym (plan-number s (tablesRefusal s old)))
         (plan-answered s (length (t .steps)) (length (t .blocks)) (length (t .processors)) (length (t .values))));
     refused = λ h.
@@ -196,11 +178,13 @@ module _ (s : LoopNest) (old : Tables) where
         let b = same-table (planned .refusal) (blocksOf s) (old .blocks) h in
         let c = same-table (planned .refusal) (processorsOf s) (old .processors) h in
         let d = same-table (planned .refusal) (valuesOf s) (old .values) h in (
-          ap (λ (x : Planning). x .iterations) e,
-          ap (λ (x : Planning). x .steps) e,
-          ap (λ (x : Planning). x .blocks) e,
-          ap (λ (x : Planning). x .processors) e,
-          ap (λ (x : Planning). x .messages) e,
+          record {
+            iterations = ap (λ (x : Planning). x .iterations) e;
+            steps = ap (λ (x : Planning). x .steps) e;
+            blocks = ap (λ (x : Planning). x .blocks) e;
+            processors = ap (λ (x : Planning). x .processors) e;
+            messages = ap (λ (x : Planning). x .messages) e;
+          },
           λ i. record { steps = a i; blocks = b i; processors = c i; values = d i },
         );
   }
@@ -234,17 +218,17 @@ module _ (s : LoopNest) (L : Layout) (st : State ℕ) (mv : Move) where
 -- ---- the exported functions that store an answer as numbers
 
 -- `rowlock_read`
-read-into-one : (text : Bytes) → OneOutcome (λ (o : ℕ × List ℤ). ReadsInto text (o .0) (o .1)) (λ o. o .0) textNumbers (λ o. o .1 ≡ numbersIn emptyNest)
+read-into-one : (text : Bytes) → OneOutcome (λ (o : ℕ × List ℤ). ReadsInto text (o .0) (o .1)) (λ o. o .0) textNumbers (λ o. o .1 ≡ numbersOf emptyNest)
 unfolding read-one
 read-into-one text = record {
-  outcome = (readRefusal text, numbersIn (readNest text));
+  outcome = (readRefusal text, numbersOf (readNest text));
   promised = (record { refusal = readRefusal text; nest = readNest text }, refl, refl, refl);
   no-other = λ o w.
       let number = w .2 ∙ ap (λ (x : Reading). x .refusal) (w .1) in
-      let nest = w .3 ∙ ap (λ (x : Reading). numbersIn (x .nest)) (w .1) in
+      let nest = w .3 ∙ ap (λ (x : Reading). numbersOf (x .nest)) (w .1) in
       λ i. (number i, nest i);
   number-listed = read-one text .number-listed;
-  refused = λ h. ap numbersIn (read-refused text h);
+  refused = λ h. ap numbersOf (read-refused text h);
 }
 
 -- `rowlock_move`
@@ -280,8 +264,8 @@ demand-1 = record {
   check = check-one;
   inspect = inspect-one;
   read = read-one;
-  write = λ s old. puts-one (refusal s) (textOf s) old (nestNumbers ++ (14 ∷ []))
-      (listed (writeOrder s (length old)) (nestNumbers ++ (14 ∷ [])) (writeRefusal (refusal s) (textOf s) (length old)) (buffer-numbers s (length old < length (textOf s))) (write-answered s (length old)));
+  write = λ s old. puts-one (refusal s) (textOf s) old bufferNumbers
+      (listed (writeOrder s (length old)) bufferNumbers (writeRefusal (refusal s) (textOf s) (length old)) (call-numbers s ((14, length old < length (textOf s)) ∷ [])) (write-answered s (length old)));
   locate = locate-one;
   row = row-one;
   row-empty = λ s table i part k c. empty-iff s table i part k (c .0) (c .1);

@@ -1,21 +1,20 @@
 -- Demand 2: what holds of the tables and counts that an accepted call of `plan` left, and of a nest that is read and written.
 -- Assumes nothing.
-use mathlib.Core.Path.{_≡_, refl, sym, ap, ap₂, subst, _∙_}
-use mathlib.Core.Bool.{true, false}
+use mathlib.Core.Path.{_≡_, sym, ap, ap₂, subst, _∙_}
 use mathlib.Core.List.{List, _++_}
-use Prim.Native.Nat.{ℕ, suc, _^_, _<_, _≤_}
+use Prim.Native.Nat.{ℕ, suc, _^_, _<_}
 use native.Mathlib.Omega.{arith}
 use lib.IntN.{pos, _+ℤ_}
 use lib.ListN.{length, getD, take, drop, List·getD-append}
 use lib.Seq.{take-append-le, take-all}
-use borrow.Author.Tests.{eq-eqb}
 use Rattle.integers.proofs.ListFacts.{getD-map}
 use Rattle.nest.specs.declared.LoopNest.{LoopNest}
+use Rattle.nest.specs.Points.{pointsOf}
 use Rattle.nest.specs.Nest.{toℕ}
 use Rattle.nest.specs.declared.Inspection.{Inspection}
-use Rattle.nest.specs.Refusals.{refusal, shortBuffer, tableAfter, Order, Answered, nestOrder}
+use Rattle.nest.specs.Refusals.{refusal, tableAfter, Order, Answered, nestOrder}
 use Rattle.nest.proofs.Answers.{answered-unique, nest-answered}
-use Rattle.nest.proofs.Entries.{orElse-zero, orElse-second, long-enough, made-table}
+use Rattle.nest.proofs.Entries.{made-table}
 use Rattle.partition.specs.Partition.{stepsOf, stepCount, groupsOf, blocksOf, blockCount, noGroup}
 use Rattle.partition.proofs.Theorems.{steps-length, step-is, step-below, last-step, blocks-length, block-below, block-used, block-order, block-iff, one-iteration-a-step, later-step}
 use Rattle.mapping.specs.Mapping.{processorsOf, processorCount, messageCount, directionsOf, processor}
@@ -35,7 +34,7 @@ use Rattle.execution.proofs.Answers.{move-answered}
 use Rattle.nest_text.specs.Fields.{Bytes}
 use Rattle.nest_text.specs.declared.Reading.{Reading}
 use Rattle.nest_text.specs.declared.Writing.{Writing}
-use Rattle.nest_text.specs.Text.{textOf, readRefusal, readNest, writeRefusal, writtenLength, written, writeOrder, Puts, Writes}
+use Rattle.nest_text.specs.Text.{textOf, readRefusal, readNest, writeRefusal, writeOrder, Puts, Writes}
 use Rattle.nest_text.specs.Form.{readOrder}
 use Rattle.nest_text.proofs.Answers.{read-answered, write-answered}
 use Rattle.rows.specs.declared.Span.{Span}
@@ -43,7 +42,8 @@ use Rattle.rows.specs.Rows.{rowRefusal, rowOrder}
 use Rattle.rows.proofs.SpanLaws.{span-refusal}
 use Rattle.rows.proofs.Answers.{row-answered}
 use Rattle.nest_text.proofs.RoundTrip.{read-written, written-read}
-use Rattle.promises.specs.Demand2.{size, leastProduct, at, Planned, SameText, Exactly, Conditions, Demand2}
+use Rattle.nest_text.proofs.WriteAnswers.{put-number, put-length, put-bytes, put-first, put-room}
+use Rattle.promises.specs.Demand2.{leastProduct, at, IsPlan, SameText, Exactly, Conditions, Demand2}
 
 -- ---- a plan
 module _ (s : LoopNest) (old : Tables) (p : Planning) (t : Tables) (P : Plans s old p t) (z : p .refusal ≡ 0) where
@@ -56,27 +56,27 @@ module _ (s : LoopNest) (old : Tables) (p : Planning) (t : Tables) (P : Plans s 
   counts = plan-answer s old p t P z
 
   -- a table that is planned
-  table : (planned was now : List ℕ) → length planned ≡ size s → now ≡ tableAfter (p .refusal) planned was → now ≡ planned ++ drop (size s) was
-  table planned was now l e = e ∙ made-table (p .refusal) (size s) planned was z l
+  table : (planned was now : List ℕ) → length planned ≡ length (pointsOf s) → now ≡ tableAfter (p .refusal) planned was → now ≡ planned ++ drop (length (pointsOf s)) was
+  table planned was now l e = e ∙ made-table (p .refusal) (length (pointsOf s)) planned was z l
 
   -- and its entries
-  entry : (planned was now : List ℕ) → length planned ≡ size s → now ≡ tableAfter (p .refusal) planned was → (k : ℕ) → k < size s → at now k ≡ at planned k
-  entry planned was now l e k h = ap (λ (xs : List ℕ). getD xs k 0) (table planned was now l e) ∙ List·getD-append planned (drop (size s) was) 0 k (omega arith)
+  entry : (planned was now : List ℕ) → length planned ≡ length (pointsOf s) → now ≡ tableAfter (p .refusal) planned was → (k : ℕ) → k < length (pointsOf s) → at now k ≡ at planned k
+  entry planned was now l e k h = ap (λ (xs : List ℕ). getD xs k 0) (table planned was now l e) ∙ List·getD-append planned (drop (length (pointsOf s)) was) 0 k (omega arith)
 
-  step-at : (k : ℕ) → k < size s → at (t .steps) k ≡ at (stepsOf s) k
+  step-at : (k : ℕ) → k < length (pointsOf s) → at (t .steps) k ≡ at (stepsOf s) k
   step-at = entry (stepsOf s) (old .steps) (t .steps) (steps-length s ok) (P .1 .0)
 
-  block-at : (k : ℕ) → k < size s → at (t .blocks) k ≡ at (blocksOf s) k
+  block-at : (k : ℕ) → k < length (pointsOf s) → at (t .blocks) k ≡ at (blocksOf s) k
   block-at = entry (blocksOf s) (old .blocks) (t .blocks) (blocks-length s ok) (P .1 .1 .0)
 
-  processor-at : (k : ℕ) → k < size s → at (t .processors) k ≡ at (processorsOf s) k
+  processor-at : (k : ℕ) → k < length (pointsOf s) → at (t .processors) k ≡ at (processorsOf s) k
   processor-at = entry (processorsOf s) (old .processors) (t .processors) (processors-length s) (P .1 .1 .1 .0)
 
-  value-at : (k : ℕ) → k < size s → at (t .values) k ≡ at (valuesOf s) k
+  value-at : (k : ℕ) → k < length (pointsOf s) → at (t .values) k ≡ at (valuesOf s) k
   value-at = entry (valuesOf s) (old .values) (t .values) (values-length s) (P .1 .1 .1 .1)
 
   -- the counts by their definitions
-  counted : (p .iterations ≡ size s) × (p .steps ≡ stepCount s) × (p .blocks ≡ blockCount s) × (p .processors ≡ processorCount s) × (p .messages ≡ messageCount s)
+  counted : (p .iterations ≡ length (pointsOf s)) × (p .steps ≡ stepCount s) × (p .blocks ≡ blockCount s) × (p .processors ≡ processorCount s) × (p .messages ≡ messageCount s)
   unfolding planAnswer
   counted = (
     ap (λ (x : Planning). x .iterations) counts,
@@ -87,17 +87,17 @@ module _ (s : LoopNest) (old : Tables) (p : Planning) (t : Tables) (P : Plans s 
   )
 
   -- an iteration's processor is that of its group
-  grouped : (k : ℕ) → k < size s → at (processorsOf s) k ≡ processor (directionsOf s) (getD (groupsOf s) k noGroup)
+  grouped : (k : ℕ) → k < length (pointsOf s) → at (processorsOf s) k ≡ processor (directionsOf s) (getD (groupsOf s) k noGroup)
   unfolding processorsOf
   grouped k h = getD-map (processor (directionsOf s)) (groupsOf s) k noGroup 0 (subst (λ n. k < n) (sym (groups-length s)) h)
 
   -- so a block is on one
-  one-processor : (j k : ℕ) → j < size s → k < size s → at (t .blocks) j ≡ at (t .blocks) k → at (t .processors) j ≡ at (t .processors) k
+  one-processor : (j k : ℕ) → j < length (pointsOf s) → k < length (pointsOf s) → at (t .blocks) j ≡ at (t .blocks) k → at (t .processors) j ≡ at (t .processors) k
   one-processor j k hj hk e =
       let g = block-iff s ok j k hj hk .0 (sym (block-at j hj) ∙ e ∙ block-at k hk) in
       processor-at j hj ∙ grouped j hj ∙ ap (processor (directionsOf s)) g ∙ sym (grouped k hk) ∙ sym (processor-at k hk)
 
-  planned : Planned s old p t
+  planned : IsPlan s old p t
   planned = record {
     steps = table (stepsOf s) (old .steps) (t .steps) (steps-length s ok) (P .1 .0);
     blocks = table (blocksOf s) (old .blocks) (t .blocks) (blocks-length s ok) (P .1 .1 .0);
@@ -121,59 +121,29 @@ module _ (s : LoopNest) (old : Tables) (p : Planning) (t : Tables) (P : Plans s 
     one-processor = one-processor;
     processor-below = λ k h. subst (λ n. n < 2 ^ toℕ (s .cube)) (sym (processor-at k h)) (processors-below s k h);
     processor-count = counted .3;
-    messages = counted .4 ∙ messages-counted s;
+    message-count = counted .4 ∙ messages-counted s;
     value = λ k h. value-at k h ∙ (unfold valuesOf in loop-value (ruleOf s) s ok k h 0);
   }
-
--- ---- a call that writes bytes, and is not refused
-module _ (number : ℕ) (bytes old new : Bytes) (w : Writing) (W : Puts number bytes old w new) where
-  module _ (z : writeRefusal number bytes (length old) ≡ 0) where
-    -- its answer
-    put-answer : w ≡ record { refusal = 0; length = length bytes }
-    unfolding writtenLength
-    put-answer =
-        W .0
-        ∙ ap₂ (λ (a b : ℕ). let r : Writing = record { refusal = a; length = b } in r) z (ap (λ b. elim b as (λ _. ℕ) [ true ↦ length bytes | false ↦ 0 ]) (eq-eqb (writeRefusal number bytes (length old)) 0 z))
-
-    -- and its buffer
-    put-buffer : new ≡ bytes ++ drop (length bytes) old
-    unfolding written
-    put-buffer = W .1 ∙ made-table (writeRefusal number bytes (length old)) (length bytes) bytes old z refl
-
-  -- where its number is 0 there is no other
-  put-number : w .refusal ≡ 0 → writeRefusal number bytes (length old) ≡ 0
-  put-number e = sym (ap (λ (x : Writing). x .refusal) (W .0)) ∙ e
-
--- a buffer that has room
-put-room : (number : ℕ) (bytes old : Bytes) → number ≡ 0 → length bytes ≤ length old → writeRefusal number bytes (length old) ≡ 0
-unfolding writeRefusal
-put-room number bytes old e h = orElse-second number (shortBuffer (length bytes) (length old)) e ∙ long-enough (length bytes) (length old) h
-
--- no refusal, so none of the nest
-put-first : (number : ℕ) (bytes old : Bytes) → writeRefusal number bytes (length old) ≡ 0 → number ≡ 0
-unfolding writeRefusal
-put-first number bytes old z = orElse-zero number (shortBuffer (length bytes) (length old)) z .0
 
 -- ---- read and written
 same-text : SameText
 same-text = record {
   reads-written = λ s old new w r W e R.
-      let z = put-number (refusal s) (textOf s) old new w W e in
-      let ok = put-first (refusal s) (textOf s) old z in
-      let l : w .length ≡ length (textOf s) = ap (λ (x : Writing). x .length) (put-answer (refusal s) (textOf s) old new w W z) in
+      let z = sym (put-number (refusal s) (textOf s) old w new W) ∙ e in
+      let q = read-written s (put-first (refusal s) (textOf s) old z) in
       let back : take (w .length) new ≡ textOf s =
-      ap₂ (λ (n : ℕ) (bs : Bytes). take n bs) l (put-buffer (refusal s) (textOf s) old new w W z)
+      ap₂ (λ (n : ℕ) (bs : Bytes). take n bs) (put-length (refusal s) (textOf s) old w new W z) (put-bytes (refusal s) (textOf s) old w new W z)
       ∙ take-append-le (length (textOf s)) (textOf s) (drop (length (textOf s)) old) (omega arith) ∙ take-all (length (textOf s)) (textOf s) (omega arith) in
-      let q = read-written s ok in
       R ∙ ap (λ (bs : Bytes). let x : Reading = record { refusal = readRefusal bs; nest = readNest bs } in x) back
       ∙ ap₂ (λ (k : ℕ) (n : LoopNest). let x : Reading = record { refusal = k; nest = n } in x) (q .0) (q .1);
   writes-read = λ text old new r w R e W h.
-      let k : readRefusal text ≡ 0 = sym (ap (λ (x : Reading). x .refusal) R) ∙ e in
-      let n : r .nest ≡ readNest text = ap (λ (x : Reading). x .nest) R in
-      let q = written-read text k in
-      let P : Puts (refusal (readNest text)) text old w new = subst (λ (bs : Bytes). Puts (refusal (readNest text)) bs old w new) (q .same-bytes) (subst (λ (s : LoopNest). Writes s old w new) n W) in
-      let z = put-room (refusal (readNest text)) text old (q .accepted) h in
-      (put-answer (refusal (readNest text)) text old new w P z, put-buffer (refusal (readNest text)) text old new w P z);
+      let q = written-read text (sym (ap (λ (x : Reading). x .refusal) R) ∙ e) in
+      let k = refusal (readNest text) in
+      let P : Puts k text old w new = subst (λ (bs : Bytes). Puts k bs old w new) (q .same-bytes) (subst (λ (s : LoopNest). Writes s old w new) (ap (λ (x : Reading). x .nest) R) W) in
+      let z = put-room k text old h ∙ q .accepted in
+      let a = put-number k text old w new P ∙ z in
+      let l = put-length k text old w new P z in
+      (λ i. record { refusal = a i; length = l i }, put-bytes k text old w new P z);
 }
 
 -- ---- refusals

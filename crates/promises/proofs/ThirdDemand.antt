@@ -1,11 +1,9 @@
 -- Demand 3, from the claim that `execution` proves of every list of moves on a causal layout.
 -- Assumes nothing.
 use mathlib.Core.Path.{_≡_, refl, sym, ap, ap₂, subst, _∙_}
-use mathlib.Core.Bool.{true}
 use mathlib.Core.List.{List, [], _∷_, _++_, map, map-map}
 use mathlib.Core.Logic.{_≢_}
 use Prim.Native.Nat.{ℕ, _+_, _≤_}
-use borrow.Author.Tests.{eq-eqb}
 use lib.ListN.{length}
 use Rattle.nest.specs.declared.LoopNest.{LoopNest}
 use Rattle.nest.specs.Points.{pointsOf}
@@ -21,29 +19,24 @@ use Rattle.execution.specs.declared.Answer.{Answer}
 use Rattle.execution.specs.Rules.{Move, Effect, refuse, iteration, message, answer, Layout, effect}
 use Rattle.execution.specs.Machine.{Machine, freshMachine, layoutOf, referenceRun}
 use Rattle.execution.specs.Words.{SaysList, no-move, next-move}
-use Rattle.execution.specs.Run.{State, stateView, stateRefusal, moveEffect, moveAnswer, moveAfter, run, answers}
+use Rattle.execution.specs.Run.{State, stateView, stateRefusal, moveAnswer, moveAfter, run, answers}
 use Rattle.execution.specs.Claim.{Planned, Fresh, Change, one-iteration, one-message, nothing, NoneMissing, NoneAllowed, Complete, Outcome, MoveCall, Calls}
 use Rattle.execution.specs.Entry.{moveOf, numberOf, EntryCalls, no-entry, entry, toldBy}
-use Rattle.execution.proofs.RuleLaws.{Numbered, effect-number}
+use Rattle.execution.proofs.RuleLaws.{Numbered, effect-number, move-rules}
 use Rattle.execution.proofs.WordLaws.{list-says}
-use Rattle.execution.proofs.TableLaws.{run-snoc}
+use Rattle.execution.proofs.TableLaws.{run-snoc, answers-snoc}
 use Rattle.execution.proofs.Demand.{causal, layout-outcome, own-messages, plan-planned, calls-run}
 use Rattle.execution.proofs.EntryRuns.{entry-calls, entry-told}
-use Rattle.numbers.specs.Numbers.{Asked, askedMove, madeIn, NumberCalls, no-call, next-call}
-use Rattle.promises.specs.Demand3.{FreshState, OneMove, computes-one, delivers-one, changes-nothing, Finished, Comes, OnPlan, Demand3}
+use Rattle.numbers.specs.Numbers.{Asked, askedMove, madeIn, NumberCalls, none-asked, next-asked}
+use Rattle.promises.specs.Demand3.{Reference, FreshState, OnPlan, OneMove, computes-one, delivers-one, changes-nothing, NothingAllowed, Finished, Comes, Demand3}
 
 -- ---- a move
 
--- one that is not refused before the rules is answered by them
-ruled : {Val : Type 0} (s : LoopNest) (L : Layout) (st : State Val) (mv : Move) → stateRefusal s L st ≡ 0 → moveEffect s L st mv ≡ effect s (stateView L st) mv
-unfolding moveEffect
-ruled s L st mv e = rw (eq-eqb (stateRefusal s L st) 0 e, moveEffect) refl
-
--- and their numbers are 15 to 18
+-- one that is not refused with 2 to 14 is answered by the rules, whose numbers are 15 to 18
 rule-number : {Val : Type 0} (s : LoopNest) (L : Layout) (st : State Val) (mv : Move) → stateRefusal s L st ≡ 0 → moveAnswer s L st mv ≢ 0
     → (15 ≤ moveAnswer s L st mv) × (moveAnswer s L st mv ≤ 18)
 rule-number s L st mv e =
-    subst (λ x. answer x ≢ 0 → (15 ≤ answer x) × (answer x ≤ 18)) (sym (ruled s L st mv e)) (go (effect s (stateView L st) mv) (effect-number s (stateView L st) mv))
+    subst (λ x. answer x ≢ 0 → (15 ≤ answer x) × (answer x ≤ 18)) (sym (move-rules s L st mv e)) (go (effect s (stateView L st) mv) (effect-number s (stateView L st) mv))
   where
     go : (x : Effect) → Numbered s (stateView L st) mv x → answer x ≢ 0 → (15 ≤ answer x) × (answer x ≤ 18)
     go (refuse a) h n = h
@@ -54,14 +47,8 @@ rule-number s L st mv e =
 one-move : {Val : Type 0} {R : Rule Val} {s : LoopNest} {b c : Machine} {st st′ : State Val} {a : ℕ} → Change R s (layoutOf s) b st a c st′ → (a ≢ 0 → (15 ≤ a) × (a ≤ 18))
     → OneMove R s b st a c st′
 one-move (one-iteration {k = k} {x = x} h e v) n = computes-one k x h e v
-one-move {s = s} (one-message {k = k} {i = i} h l m e) n = delivers-one k i h l (message-true s (layoutOf s .processors) k i m) e
+one-move {s = s} (one-message {k = k} {i = i} h l m e) n = delivers-one k i (h, l, message-true s (layoutOf s .processors) k i m) e
 one-move (nothing {a = a} e) n = let l = n e in changes-nothing a (l .0) (l .1)
-
--- the numbers of a list with one move more
-answers-snoc : {Val : Type 0} (R : Rule Val) (s : LoopNest) (L : Layout) (st : State Val) (ms : List Move) (mv : Move)
-    → answers R s L st (ms ++ (mv ∷ [])) ≡ answers R s L st ms ++ (moveAnswer s L (run R s L st ms) mv ∷ [])
-answers-snoc R s L st [] mv = refl
-answers-snoc R s L st (m ∷ ms) mv = ap (λ ns. moveAnswer s L st m ∷ ns) (answers-snoc R s L (moveAfter R s L st m) ms mv)
 
 -- ---- the plan
 
@@ -106,32 +93,32 @@ module _ {Val : Type 0} (R : Rule Val) (s : LoopNest) (p : Planning) (L : Layout
     last = run R s L st₀ ms
 
     -- the sentences say these numbers
-    said : (ns : List Move) → SaysList answer s (layoutOf s) freshMachine ns (answers R s L st₀ ns) (referenceRun s (layoutOf s) ns)
+    said : (ns : List Move) → Reference answer s ns (answers R s L st₀ ns) (referenceRun s (layoutOf s) ns)
     said ns =
-        subst (λ xs. SaysList answer s (layoutOf s) freshMachine ns xs (referenceRun s (layoutOf s) ns)) (sym (outcome ns .same-answers)) (list-says answer s (layoutOf s) freshMachine ns)
+        subst (λ xs. Reference answer s ns xs (referenceRun s (layoutOf s) ns)) (sym (outcome ns .same-answers)) (list-says answer s (layoutOf s) freshMachine ns)
 
     -- one move more
     more : (mv : Move) (a : ℕ) (st : State Val) → MoveCall R s L last mv a st
-        → (c : Machine) × SaysList answer s (layoutOf s) freshMachine (ms ++ (mv ∷ [])) (numbers ++ (a ∷ [])) c × OneMove R s b last a c st
+        → (c : Machine) × Reference answer s (ms ++ (mv ∷ [])) (numbers ++ (a ∷ [])) c × OneMove R s b last a c st
     more mv a st m =
         let ns = ms ++ (mv ∷ []) in
         let c = referenceRun s (layoutOf s) ns in
         let change = outcome ns .each-move ms [] mv refl in
         let here : OneMove R s b last (moveAnswer s L last mv) c (run R s L st₀ ns) = one-move change (rule-number s L last mv (outcome ns .no-refusal ms (mv ∷ []) refl)) in (
           c,
-          subst (λ xs. SaysList answer s (layoutOf s) freshMachine ns xs c) (answers-snoc R s L st₀ ms mv ∙ ap (λ z. numbers ++ (z ∷ [])) (sym (m .0))) (said ns),
+          subst (λ xs. Reference answer s ns xs c) (answers-snoc R s L st₀ ms mv ∙ ap (λ z. numbers ++ (z ∷ [])) (sym (m .0))) (said ns),
           subst (λ z. OneMove R s b last z c st) (sym (m .0)) (subst (OneMove R s b last (moveAnswer s L last mv) c) (run-snoc R s L st₀ ms mv ∙ sym (m .1)) here),
         )
 
     -- where no move is allowed
-    none-is : ((mv : Move) (a : ℕ) (st : State Val) → MoveCall R s L last mv a st → a ≢ 0) → NoneAllowed s L last
+    none-is : NothingAllowed R s p L st₀ last → NoneAllowed s L last
     none-is none mv = none mv (moveAnswer s L last mv) (moveAfter R s L last mv) (refl, refl)
 
     -- a complete run
-    finished : NoneMissing s b → Complete R s (layoutOf s) st₀ b last numbers → Finished R s p st₀ b numbers last
+    finished : NoneMissing s b → Complete R s (layoutOf s) st₀ b last numbers → Finished R s p L st₀ b numbers last
     finished all c = record {
       all-computed = all;
-      all-delivered = λ k i hk hi m. c .all-delivered k i hk hi ∙ true-message s (layoutOf s .processors) k i m;
+      all-delivered = λ k i m. c .all-delivered k i (m .0) (m .1) ∙ true-message s (layoutOf s .processors) k i (m .2);
       table = c .table;
       all-allowed = c .all-allowed ∙ ap (λ z. length (pointsOf s) + z) (own-messages s) ∙ plan-counts s ∙ ap (λ (x : Planning). x .iterations + x .messages) (sym (plan-answer s (on .old) p (on .new) (on .plans) (on .not-refused)));
     }
@@ -151,7 +138,9 @@ module _ {Val : Type 0} (R : Rule Val) (s : LoopNest) (p : Planning) (L : Layout
           values-behind = h .values-behind;
           done-behind = h .done-behind;
           delivered-behind = h .delivered-behind;
-          lengths = (h .values-length, h .done-length, h .delivered-length);
+          values-length = h .values-length;
+          done-length = h .done-length;
+          delivered-length = h .delivered-length;
           one-more = more;
           allowed = o .allowed;
           progress = λ k l e. let q = o .progress k l e in (q .0, λ a st m. m .0 ∙ q .2);
@@ -169,11 +158,11 @@ module _ {Val : Type 0} (R : Rule Val) (s : LoopNest) (p : Planning) (L : Layout
 
 -- what each answer says
 entries-told : (s : LoopNest) (p : Planning) (L : Layout) → OnPlan s p L → (st₀ : State ℕ) → FreshState s st₀ → (whats : List asked.Move) (rs : List Answer) (last : State ℕ)
-    → EntryCalls s L st₀ whats rs last → SaysList (toldBy s) s (layoutOf s) freshMachine (map moveOf whats) rs (referenceRun s (layoutOf s) (map moveOf whats))
+    → EntryCalls s L st₀ whats rs last → Reference (toldBy s) s (map moveOf whats) rs (referenceRun s (layoutOf s) (map moveOf whats))
 entries-told s p L on st₀ f whats rs last calls =
     let ok = accepted (ruleOf s) s p L on st₀ f in
     let e = entry-told s (layoutOf s) L st₀ ok (causal s ok) (planned (ruleOf s) s p L on st₀ f) (fresh (ruleOf s) s p L on st₀ f) whats rs last calls in
-    subst (λ xs. SaysList (toldBy s) s (layoutOf s) freshMachine (map moveOf whats) xs (referenceRun s (layoutOf s) (map moveOf whats))) (sym e)
+    subst (λ xs. Reference (toldBy s) s (map moveOf whats) xs (referenceRun s (layoutOf s) (map moveOf whats))) (sym e)
     (list-says (toldBy s) s (layoutOf s) freshMachine (map moveOf whats))
 
 -- ---- calls on numbers
@@ -187,8 +176,8 @@ record AsEntries (s : LoopNest) (L : Layout) (st : State ℕ) (asks : List Asked
 
 as-entries : (s : LoopNest) (L : Layout) (st : State ℕ) (asks : List Asked) (numbers : List ℕ) (mades : List (List ℕ)) (last : State ℕ) → NumberCalls s L st asks numbers mades last
     → AsEntries s L st asks numbers mades last
-as-entries s L st asks numbers mades last no-call = record { answered = []; calls = no-entry; numbers-are = refl; mades-are = refl }
-as-entries s L st asks numbers mades last (next-call {st′ = st′} {more = more} {ns = ns} {mades = others} m c) =
+as-entries s L st asks numbers mades last none-asked = record { answered = []; calls = no-entry; numbers-are = refl; mades-are = refl }
+as-entries s L st asks numbers mades last (next-asked {st′ = st′} {more = more} {ns = ns} {mades = others} m c) =
     let h = as-entries s L st′ more ns others last c in
     record {
       answered = m .0 ∷ h .answered;
@@ -219,8 +208,8 @@ demand-3 = record {
         subst (λ ms. Comes (ruleOf s) s p L st₀ ms numbers last) same (subst (λ ns. Comes (ruleOf s) s p L st₀ (map moveOf whats) ns last) (sym (e .numbers-are)) run),
         (
           b,
-          subst (λ ms. SaysList (λ x. madeIn (toldBy s x)) s (layoutOf s) freshMachine ms mades b) same
-              (subst (λ xs. SaysList (λ x. madeIn (toldBy s x)) s (layoutOf s) freshMachine (map moveOf whats) xs b) (sym (e .mades-are))
+          subst (λ ms. Reference (λ x. madeIn (toldBy s x)) s ms mades b) same
+              (subst (λ xs. Reference (λ x. madeIn (toldBy s x)) s (map moveOf whats) xs b) (sym (e .mades-are))
               (told-as (toldBy s) madeIn s (layoutOf s) freshMachine (map moveOf whats) (e .answered) b told)),
         ),
       );

@@ -1,5 +1,5 @@
--- Demand 1 (document 00): whoever calls, with any nest, table or move, gets a plan, a table, a move done or one refusal from the list; a refusal changes no lent byte. It is said of every
--- entry, by what its contract promises.
+-- Demand 1 (document 00): whoever calls, with any nest, table or move, gets a plan, a table, a move done or one refusal
+-- from the list; a refusal changes no lent byte. It is said of every entry, by what its contract promises.
 -- Assumes nothing.
 use mathlib.Core.Path.{_≡_}
 use mathlib.Core.List.{List, [], _∷_, _++_, List·Memᴰ}
@@ -26,6 +26,14 @@ use Rattle.numbers.specs.Numbers.{numbersOf, ReadsInto, MakesInto}
 
 -- ---- the refusals of document 01 that each call has, by their numbers, in the order in which they are tested
 
+-- of a nest and a lent buffer: 2 to 14
+abbrev pub bufferNumbers : List ℕ
+bufferNumbers = nestNumbers ++ (14 ∷ [])
+
+-- of a row: 2 to 14, then 19
+abbrev pub rowNumbers : List ℕ
+rowNumbers = nestNumbers ++ (14 ∷ 19 ∷ [])
+
 -- of a text: line 1's form, then 2, 3, 4; the form of the remaining lines; then 5 to 13
 abbrev pub textNumbers : List ℕ
 textNumbers = 1 ∷ 2 ∷ 3 ∷ 4 ∷ 1 ∷ 5 ∷ 6 ∷ 7 ∷ 8 ∷ 9 ∷ 10 ∷ 11 ∷ 12 ∷ 13 ∷ []
@@ -37,7 +45,8 @@ moveNumbers (deliver k i) = nestNumbers ++ (14 ∷ 18 ∷ 16 ∷ [])
 
 -- ---- one outcome
 
--- A call promises P of its outcome, which is what it answers and what it leaves in its buffers; `number` is the number answered.
+-- A call promises P of its outcome, which is what it answers and what it leaves in its buffers; `number` is the number
+-- answered.
 pub record OneOutcome {A : Type 0} (P : A → Type 0) (number : A → ℕ) (listed : List ℕ) (Untouched : A → Type 0) : Type 0 where
   -- there is an outcome that the promise allows, and no other
   pub outcome : A
@@ -48,26 +57,47 @@ pub record OneOutcome {A : Type 0} (P : A → Type 0) (number : A → ℕ) (list
   -- a refusal answers nothing beside its number and leaves every buffer as it was
   pub refused : number outcome ≢ 0 → Untouched outcome
 
+-- a call that writes bytes into a buffer: an answer, and the buffer that it leaves
+abbrev pub OneWriting : (Writing → Bytes → Type 0) → List ℕ → Bytes → Type 0
+OneWriting P listed old =
+    OneOutcome (λ (o : Writing × Bytes). P (o .0) (o .1)) (λ o. o .0 .refusal) listed
+    (λ o. (o .0 .length ≡ 0) × (o .1 ≡ old))
+
+-- every count of an answer of `plan` is 0
+pub record NoCounts (p : Planning) : Type 0 where
+  pub iterations : p .iterations ≡ 0
+  pub steps : p .steps ≡ 0
+  pub blocks : p .blocks ≡ 0
+  pub processors : p .processors ≡ 0
+  pub messages : p .messages ≡ 0
+
 -- ---- the demand
 pub record Demand1 : Type 0 where
   pub check : (s : LoopNest) → OneOutcome (Checks s) (λ r. r) nestNumbers (λ r. Unit {0})
   pub inspect : (s : LoopNest) → OneOutcome (Inspects s) (λ r. r .refusal) nestNumbers (λ r. r .iterations ≡ 0)
   pub read : (text : Bytes) → OneOutcome (Reads text) (λ r. r .refusal) textNumbers (λ r. r .nest ≡ emptyNest)
-  pub write : (s : LoopNest) (old : Bytes)
-      → OneOutcome (λ (o : Writing × Bytes). Writes s old (o .0) (o .1)) (λ o. o .0 .refusal) (nestNumbers ++ (14 ∷ [])) (λ o. (o .0 .length ≡ 0) × (o .1 ≡ old))
-  pub locate : (s : LoopNest) (entries : ℕ) (i : ℤ) → OneOutcome (Locates s entries i) (λ r. r .refusal) (nestNumbers ++ (14 ∷ 19 ∷ [])) (λ r. (r .start ≡ 0) × (r .length ≡ 0))
-  pub row : (s : LoopNest) (table : List ℕ) (i : ℤ) → OneOutcome (λ (o : List ℕ × ℕ). Cuts s table i (o .0) (o .1)) (λ o. o .1) (nestNumbers ++ (14 ∷ 19 ∷ [])) (λ o. o .0 ≡ [])
+  pub write : (s : LoopNest) (old : Bytes) → OneWriting (λ r new. Writes s old r new) bufferNumbers old
+  pub locate : (s : LoopNest) (entries : ℕ) (i : ℤ)
+      → OneOutcome (Locates s entries i) (λ r. r .refusal) rowNumbers (λ r. (r .start ≡ 0) × (r .length ≡ 0))
+  pub row : (s : LoopNest) (table : List ℕ) (i : ℤ)
+      → OneOutcome (λ (o : List ℕ × ℕ). Cuts s table i (o .0) (o .1)) (λ o. o .1) rowNumbers (λ o. o .0 ≡ [])
   -- a part is empty exactly if the call is refused
-  pub row-empty : (s : LoopNest) (table : List ℕ) (i : ℤ) (part : List ℕ) (k : ℕ) → Cuts s table i part k → (part ≡ []) ↔ (k ≢ 0)
-  pub fill : (s : LoopNest) (old : List ℕ) → OneOutcome (λ (o : ℕ × List ℕ). Fills s old (o .0) (o .1)) (λ o. o .0) (nestNumbers ++ (14 ∷ [])) (λ o. o .1 ≡ old)
+  pub row-empty : (s : LoopNest) (table : List ℕ) (i : ℤ) (part : List ℕ) (k : ℕ) → Cuts s table i part k
+      → (part ≡ []) ↔ (k ≢ 0)
+  pub fill : (s : LoopNest) (old : List ℕ)
+      → OneOutcome (λ (o : ℕ × List ℕ). Fills s old (o .0) (o .1)) (λ o. o .0) bufferNumbers (λ o. o .1 ≡ old)
   pub plan : (s : LoopNest) (old : Tables)
-      → OneOutcome (λ (o : Planning × Tables). Plans s old (o .0) (o .1)) (λ o. o .0 .refusal) (nestNumbers ++ (14 ∷ []))
-      (λ o. (o .0 .iterations ≡ 0) × (o .0 .steps ≡ 0) × (o .0 .blocks ≡ 0) × (o .0 .processors ≡ 0) × (o .0 .messages ≡ 0) × (o .1 ≡ old))
-  pub list : (text old : Bytes)
-      → OneOutcome (λ (o : Writing × Bytes). Lists text old (o .0) (o .1)) (λ o. o .0 .refusal) (textNumbers ++ (14 ∷ [])) (λ o. (o .0 .length ≡ 0) × (o .1 ≡ old))
+      → OneOutcome (λ (o : Planning × Tables). Plans s old (o .0) (o .1)) (λ o. o .0 .refusal) bufferNumbers
+      (λ o. NoCounts (o .0) × (o .1 ≡ old))
+  pub list : (text old : Bytes) → OneWriting (λ r new. Lists text old r new) (textNumbers ++ (14 ∷ [])) old
   pub move : (s : LoopNest) (L : Layout) (st : State ℕ) (mv : Move)
-      → OneOutcome (λ (o : Answer × State ℕ). Makes s L st mv (o .0) (o .1)) (λ o. numberOf (o .0)) (moveNumbers mv) (λ o. o .1 ≡ st)
-  -- the two exported functions whose promises are not an entry's word for word: they store as numbers what the entry answers
-  pub read-into : (text : Bytes) → OneOutcome (λ (o : ℕ × List ℤ). ReadsInto text (o .0) (o .1)) (λ o. o .0) textNumbers (λ o. o .1 ≡ numbersOf emptyNest)
+      → OneOutcome (λ (o : Answer × State ℕ). Makes s L st mv (o .0) (o .1)) (λ o. numberOf (o .0)) (moveNumbers mv)
+      (λ o. o .1 ≡ st)
+  -- the two exported functions whose promises are not an entry's word for word: they store as numbers what the entry
+  -- answers
+  pub read-into : (text : Bytes)
+      → OneOutcome (λ (o : ℕ × List ℤ). ReadsInto text (o .0) (o .1)) (λ o. o .0) textNumbers
+      (λ o. o .1 ≡ numbersOf emptyNest)
   pub move-into : (s : LoopNest) (L : Layout) (st : State ℕ) (what : asked.Move)
-      → OneOutcome (λ (o : ℕ × List ℕ × State ℕ). MakesInto s L st what (o .0) (o .1) (o .2)) (λ o. o .0) (moveNumbers (moveOf what)) (λ o. (o .1 ≡ 0 ∷ 0 ∷ []) × (o .2 ≡ st))
+      → OneOutcome (λ (o : ℕ × List ℕ × State ℕ). MakesInto s L st what (o .0) (o .1) (o .2)) (λ o. o .0)
+      (moveNumbers (moveOf what)) (λ o. (o .1 ≡ 0 ∷ 0 ∷ []) × (o .2 ≡ st))

@@ -1,6 +1,8 @@
--- Demand 2 (document 00): an accepted nest's steps, blocks, processors, counts and values are those of the published projection, grouping and Gray numbering, with the free choices
--- fixed in document 01; each iteration is in one block, no two iterations of a block are at one step, every dependence leads to a later step. A refusal comes under its stated condition
--- and no other. A nest read and written is the same nest, as text and as numbers. It is said of what calls of the entries answer and leave.
+-- Demand 2 (document 00): an accepted nest's steps, blocks, processors, counts and values are those of the published
+-- projection, grouping and Gray numbering, with the free choices fixed in document 01; each iteration is in one block, no
+-- two iterations of a block are at one step, every dependence leads to a later step. A refusal comes under its stated
+-- condition and no other. A nest read and written is the same nest, as text and as numbers. It is said of what calls of
+-- the entries answer and leave.
 -- Assumes nothing.
 use mathlib.Core.Path.{_≡_}
 use mathlib.Core.List.{List, _++_, map}
@@ -35,83 +37,107 @@ use Rattle.execution.specs.Rules.{Move, Layout}
 use Rattle.execution.specs.Run.{State}
 use Rattle.execution.specs.Words.{moveOrder}
 use Rattle.execution.specs.Entry.{numberOf, Makes}
+use Rattle.promises.specs.Iterations.{Iteration, behind}
 
 -- ---- the plan of an accepted nest
-
--- the number of iterations
-abbrev pub size : LoopNest → ℕ
-size s = lib.ListN.length (pointsOf s)
-
--- the least P·j over all iterations
-abbrev pub leastProduct : LoopNest → ℤ
-leastProduct s = leastZ (map (dots (timeOf s)) (pointsOf s))
 
 -- entry k of a table
 abbrev pub at : List ℕ → ℕ → ℕ
 at table k = getD table k 0
 
+-- the least P·j over all iterations
+abbrev pub leastProduct : LoopNest → ℤ
+leastProduct s = leastZ (map (dots (timeOf s)) (pointsOf s))
+
+-- how many pairs of an iteration and a dependence are messages: the source is an iteration on another processor
+abbrev pub messagePairs : LoopNest → ℕ
+messagePairs s =
+    count (λ q. isMessage s (processorsOf s) (q .0) (q .1)) (pairs (lib.ListN.length (pointsOf s)) (countOf s))
+
 -- A call of `plan` that was not refused found the tables `old`, answered p and left the tables t.
-pub record Planned (s : LoopNest) (old : Tables) (p : Planning) (t : Tables) : Type 0 where
+pub record IsPlan (s : LoopNest) (old : Tables) (p : Planning) (t : Tables) : Type 0 where
   -- the tables hold the method's steps, blocks, processors and values, and behind them what they held before
-  pub steps : t .steps ≡ stepsOf s ++ drop (size s) (old .steps)
-  pub blocks : t .blocks ≡ blocksOf s ++ drop (size s) (old .blocks)
-  pub processors : t .processors ≡ processorsOf s ++ drop (size s) (old .processors)
-  pub values : t .values ≡ valuesOf s ++ drop (size s) (old .values)
+  pub steps : t .steps ≡ stepsOf s ++ behind s (old .steps)
+  pub blocks : t .blocks ≡ blocksOf s ++ behind s (old .blocks)
+  pub processors : t .processors ≡ processorsOf s ++ behind s (old .processors)
+  pub values : t .values ≡ valuesOf s ++ behind s (old .values)
+  pub iterations : p .iterations ≡ lib.ListN.length (pointsOf s)
   -- a step is P·j less the least P·j; each is below the count of steps, and one is the last
-  pub iterations : p .iterations ≡ size s
-  pub step : (k : ℕ) → k < size s → dots (timeOf s) (point s k) ≡ leastProduct s +ℤ pos (at (t .steps) k)
-  pub step-below : (k : ℕ) → k < size s → at (t .steps) k < p .steps
-  pub step-last : (k : ℕ) × (k < size s) × (suc (at (t .steps) k) ≡ p .steps)
-  -- each iteration is in exactly one block: its entry; the numbers from 0 to the count less 1 are each used, in the order of the first iterations
-  pub block-below : (k : ℕ) → k < size s → at (t .blocks) k < p .blocks
-  pub block-used : (b : ℕ) → b < p .blocks → (k : ℕ) × (k < size s) × (at (t .blocks) k ≡ b)
-  pub block-order : (k : ℕ) → k < size s → (b : ℕ) → b < at (t .blocks) k → (j : ℕ) × (j < k) × (at (t .blocks) j ≡ b)
+  pub step : (k : ℕ) → Iteration s k → dots (timeOf s) (point s k) ≡ leastProduct s +ℤ pos (at (t .steps) k)
+  pub step-below : (k : ℕ) → Iteration s k → at (t .steps) k < p .steps
+  pub step-last : (k : ℕ) × Iteration s k × (suc (at (t .steps) k) ≡ p .steps)
+  -- each iteration is in exactly one block: its entry; the numbers from 0 to the count less 1 are each used, in the order
+  -- of the first iterations
+  pub block-below : (k : ℕ) → Iteration s k → at (t .blocks) k < p .blocks
+  pub block-used : (b : ℕ) → b < p .blocks → (k : ℕ) × Iteration s k × (at (t .blocks) k ≡ b)
+  pub block-order : (k : ℕ) → Iteration s k → (b : ℕ) → b < at (t .blocks) k → (j : ℕ) × (j < k) × (at (t .blocks) j ≡ b)
   -- a block is all iterations projected into one group
-  pub one-group : (j k : ℕ) → j < size s → k < size s → (at (t .blocks) j ≡ at (t .blocks) k) ↔ (groupAt s j ≡ groupAt s k)
+  pub one-group : (j k : ℕ) → Iteration s j → Iteration s k
+      → (at (t .blocks) j ≡ at (t .blocks) k) ↔ (groupAt s j ≡ groupAt s k)
   -- no two iterations of a block are at one step
-  pub one-a-step : (j k : ℕ) → j < size s → k < size s → at (t .blocks) j ≡ at (t .blocks) k → at (t .steps) j ≡ at (t .steps) k → j ≡ k
+  pub one-a-step : (j k : ℕ) → Iteration s j → Iteration s k
+      → at (t .blocks) j ≡ at (t .blocks) k → at (t .steps) j ≡ at (t .steps) k → j ≡ k
   -- every dependence leads to a later step
-  pub later-step : (i : ℕ) → i < countOf s → (j k : ℕ) → j < size s → k < size s → point s j ≡ source (point s k) (dependence s i) → at (t .steps) j < at (t .steps) k
+  pub later-step : (i : ℕ) → i < countOf s → (j k : ℕ) → Iteration s j → Iteration s k
+      → point s j ≡ source (point s k) (dependence s i) → at (t .steps) j < at (t .steps) k
   -- a block is on one processor, and a processor is one of the machine's
-  pub one-processor : (j k : ℕ) → j < size s → k < size s → at (t .blocks) j ≡ at (t .blocks) k → at (t .processors) j ≡ at (t .processors) k
-  pub processor-below : (k : ℕ) → k < size s → at (t .processors) k < 2 ^ toℕ (s .cube)
+  pub one-processor : (j k : ℕ) → Iteration s j → Iteration s k
+      → at (t .blocks) j ≡ at (t .blocks) k → at (t .processors) j ≡ at (t .processors) k
+  pub processor-below : (k : ℕ) → Iteration s k → at (t .processors) k < 2 ^ toℕ (s .cube)
+  -- so many processors hold an iteration, and so many messages there are
   pub processor-count : p .processors ≡ processorCount s
-  -- the messages are the pairs of an iteration and a dependence whose source is an iteration on another processor
-  pub messages : p .messages ≡ count (λ q. isMessage s (processorsOf s) (q .0) (q .1)) (pairs (size s) (countOf s))
+  pub message-count : p .messages ≡ messagePairs s
   -- each value is the weighted sum of the values of its sources
-  pub value : (k : ℕ) → k < size s → at (t .values) k ≡ valueOf (ruleOf s) s (valuesOf s) k
+  pub value : (k : ℕ) → Iteration s k → at (t .values) k ≡ valueOf (ruleOf s) s (valuesOf s) k
 
 -- ---- read and written
 pub record SameText : Type 0 where
   -- reading what `write` left gives the nest, with 0 in the places that its text has no field for
-  pub reads-written : (s : LoopNest) (old new : Bytes) (w : Writing) (r : Reading) → Writes s old w new → w .refusal ≡ 0 → Reads (take (w .length) new) r
+  pub reads-written : (s : LoopNest) (old new : Bytes) (w : Writing) (r : Reading)
+      → Writes s old w new → w .refusal ≡ 0 → Reads (take (w .length) new) r
       → r ≡ record { refusal = 0; nest = cleared s }
   -- writing what `read` gave, into a buffer that has room, gives the same bytes
-  pub writes-read : (text old new : Bytes) (r : Reading) (w : Writing) → Reads text r → r .refusal ≡ 0 → Writes (r .nest) old w new → lib.ListN.length text ≤ lib.ListN.length old
-      → (w ≡ record { refusal = 0; length = lib.ListN.length text }) × (new ≡ text ++ drop (lib.ListN.length text) old)
+  pub writes-read : (text old new : Bytes) (r : Reading) (w : Writing)
+      → Reads text r → r .refusal ≡ 0 → Writes (r .nest) old w new → lib.ListN.length text ≤ lib.ListN.length old
+      → (w ≡ record { refusal = 0; length = lib.ListN.length text })
+      × (new ≡ text ++ drop (lib.ListN.length text) old)
 
 -- ---- refusals
 
--- a call answers k exactly if k is what its order of refusals says: the number of the first whose condition is met, 0 where none is
+-- a call answers k exactly if k is what its order of refusals says: the number of the first whose condition is met, 0
+-- where none is
 abbrev pub Exactly : Order → ℕ → Type 0
 Exactly order number = (k : ℕ) → (number ≡ k) ↔ Answered order k
+
+-- the order of a call of `plan` that is lent these tables
+abbrev pub tablesOrder : LoopNest → Tables → Order
+tablesOrder s t =
+    planOrder s (lib.ListN.length (t .steps)) (lib.ListN.length (t .blocks)) (lib.ListN.length (t .processors))
+    (lib.ListN.length (t .values))
 
 -- of every entry
 pub record Conditions : Type 0 where
   pub check : (s : LoopNest) (r : ℕ) → Checks s r → Exactly (nestOrder s) r
   pub inspect : (s : LoopNest) (r : Inspection) → Inspects s r → Exactly (nestOrder s) (r .refusal)
   pub read : (text : Bytes) (r : Reading) → Reads text r → Exactly (readOrder text) (r .refusal)
-  pub write : (s : LoopNest) (old : Bytes) (r : Writing) (new : Bytes) → Writes s old r new → Exactly (writeOrder s (lib.ListN.length old)) (r .refusal)
-  pub locate : (s : LoopNest) (entries : ℕ) (i : ℤ) (r : Span) → Locates s entries i r → Exactly (rowOrder s entries i) (r .refusal)
-  pub row : (s : LoopNest) (table : List ℕ) (i : ℤ) (part : List ℕ) (k : ℕ) → Cuts s table i part k → Exactly (rowOrder s (lib.ListN.length table) i) k
-  pub fill : (s : LoopNest) (old : List ℕ) (r : ℕ) (new : List ℕ) → Fills s old r new → Exactly (fillOrder s (lib.ListN.length old)) r
+  pub write : (s : LoopNest) (old : Bytes) (r : Writing) (new : Bytes) → Writes s old r new
+      → Exactly (writeOrder s (lib.ListN.length old)) (r .refusal)
+  pub locate : (s : LoopNest) (entries : ℕ) (i : ℤ) (r : Span) → Locates s entries i r
+      → Exactly (rowOrder s entries i) (r .refusal)
+  pub row : (s : LoopNest) (table : List ℕ) (i : ℤ) (part : List ℕ) (k : ℕ) → Cuts s table i part k
+      → Exactly (rowOrder s (lib.ListN.length table) i) k
+  pub fill : (s : LoopNest) (old : List ℕ) (r : ℕ) (new : List ℕ) → Fills s old r new
+      → Exactly (fillOrder s (lib.ListN.length old)) r
   pub plan : (s : LoopNest) (old : Tables) (r : Planning) (new : Tables) → Plans s old r new
-      → Exactly (planOrder s (lib.ListN.length (old .steps)) (lib.ListN.length (old .blocks)) (lib.ListN.length (old .processors)) (lib.ListN.length (old .values))) (r .refusal)
-  pub list : (text old : Bytes) (r : Writing) (new : Bytes) → Lists text old r new → Exactly (listOrder text (lib.ListN.length old)) (r .refusal)
-  pub move : (s : LoopNest) (L : Layout) (st : State ℕ) (mv : Move) (r : Answer) (st′ : State ℕ) → Makes s L st mv r st′ → Exactly (moveOrder s L st mv) (numberOf r)
+      → Exactly (tablesOrder s old) (r .refusal)
+  pub list : (text old : Bytes) (r : Writing) (new : Bytes) → Lists text old r new
+      → Exactly (listOrder text (lib.ListN.length old)) (r .refusal)
+  pub move : (s : LoopNest) (L : Layout) (st : State ℕ) (mv : Move) (r : Answer) (st′ : State ℕ)
+      → Makes s L st mv r st′ → Exactly (moveOrder s L st mv) (numberOf r)
 
 -- ---- the demand
 pub record Demand2 : Type 0 where
-  pub plan : (s : LoopNest) (old : Tables) (p : Planning) (t : Tables) → Plans s old p t → p .refusal ≡ 0 → Planned s old p t
+  pub plan : (s : LoopNest) (old : Tables) (p : Planning) (t : Tables) → Plans s old p t → p .refusal ≡ 0
+      → IsPlan s old p t
   pub refusals : Conditions
   pub text : SameText
