@@ -126,16 +126,15 @@ split-loops lower upper k (suc n) h f =
       keys = λ a. rw e (cons-keys lower upper k n a);
     }
 
--- where no loop is inside it
-pub no-inner : (lower upper : List ℤ) (k left : ℕ) → left ≡ 1 → limitsFrom lower upper (k + 1) (left - 1) ≡ []
-unfolding tab
-no-inner lower upper k left h = let e : left - 1 ≡ 0 = omega arith in ap (λ n. limitsFrom lower upper (k + 1) n) e
+-- where no loop is inside it there are as many points as indices
+pub row-count : (lower upper : List ℤ) (k : ℕ) → Split lower upper k 1 → pointCount (limitsFrom lower upper k 1) ≡ extent (limitAt lower upper k)
+unfolding tab pointCount
+row-count lower upper k S = S .count ∙ omega arith
 
--- then there are as many points as indices
-pub row-count : (lower upper : List ℤ) (k left : ℕ) → Split lower upper k left → left ≡ 1 → pointCount (limitsFrom lower upper k left) ≡ extent (limitAt lower upper k)
-row-count lower upper k left S l =
-    let one : pointCount (limitsFrom lower upper (k + 1) (left - 1)) ≡ 1 = ap pointCount (no-inner lower upper k left l) ∙ (unfold pointCount in refl) in
-    S .count ∙ ap (λ m. extent (limitAt lower upper k) * m) one ∙ omega arith
+-- and their keys are in a row
+pub row-is : (lower upper : List ℤ) (k : ℕ) (a : ℤ) → Split lower upper k 1 → map (keyFrom a) (points (limitsFrom lower upper k 1)) ≡ tab (prefixes a (getD lower k (pos 0))) (extent (limitAt lower upper k))
+unfolding tab
+row-is lower upper k a S = S .keys a ∙ row-keys (prefixes a (getD lower k (pos 0))) (extent (limitAt lower upper k))
 
 -- ---- tables written from a place on
 
@@ -178,15 +177,6 @@ module _ (lower upper : List ℤ) (k left : ℕ) (a : ℤ) (S : Split lower uppe
   -- what the walk over these loops answers and leaves
   abbrev Done : ℕ → List ℤ → Type 0
   Done r new = (r ≡ at + pointCount (limitsFrom lower upper k left)) × (new ≡ sets old at (map (keyFrom a) (points (limitsFrom lower upper k left))))
-
-  -- the innermost loop: a row
-  pub row-out : (n : ℕ) (f : ℤ) (new : List ℤ) → left ≡ 1 → n ≡ extent loop → f ≡ first → new ≡ sets old at (tab (λ q. f +ℤ pos q) n) → Done (at + n) new
-  row-out n f new l e p q =
-      let none = no-inner lower upper k left l in
-      let c = row-count lower upper k left S l in
-      let row : map (keyFrom a) (points (limitsFrom lower upper k left)) ≡ tab (λ i. first +ℤ pos i) (extent loop) =
-      S .keys a ∙ ap (λ ls. behindEach (points ls) (prefixes a (getD lower k (pos 0))) (extent loop)) none ∙ row-keys (λ i. first +ℤ pos i) (extent loop) in
-      (omega (arith, c, e), q ∙ ap₂ (λ (z : ℤ) (m : ℕ). sets old at (tab (λ i. z +ℤ pos i) m)) p e ∙ ap (sets old at) (sym row))
 
   -- the loops inside, behind the first q indices
   abbrev pub WalkedTo : ℤ → ℕ → ℕ → List ℤ → Type 0

@@ -42,30 +42,52 @@ fn row_into(keys: &mut [i64], at: usize, first: i64, n: usize)
     }
 }
 
+// The keys of the points of loop k, the innermost, behind the digits of the outer indices, into a table from place `at` on; answers the place behind them.
+fn row_from(
+    lower: &[i64; LoopNest::MAX_DEPTH],
+    upper: &[i64; LoopNest::MAX_DEPTH],
+    k: usize,
+    prefix: i64,
+    keys: &mut [i64],
+    at: usize,
+) -> usize
+    requires { ⌜ (k < maxDepth) × (natAbs prefix + natAbs prefix < base ^ k) × (any crossed (limitsFrom (now lower) (now upper) k 1) ≡ false) × (at + pointCount (limitsFrom (now lower) (now upper) k 1) ≤ length (now keys)) ⌝ }
+    ensures { λ r. ⌜ r ≡ at + pointCount (limitsFrom (now (lower .entry)) (now (upper .entry)) k 1) ⌝ }
+    ensures { λ r. ⌜ now (keys .exit) ≡ sets (now (keys .entry)) at (map (keyFrom prefix) (points (limitsFrom (now (lower .entry)) (now (upper .entry)) k 1))) ⌝ }
+{
+    let first = prefix * BASE + lower[k];
+    let count = nest::extent_of(lower[k], upper[k]) as usize;
+    row_into(keys, at, first, count);
+    at + count
+}
+
 // The keys of the points of `left` loops, from loop k on, behind the digits of the outer indices, into a table from place `at` on; answers the place behind
-// them. No other function here knows of limits.
+// them. The last loop but one has its rows written with no further recursion. Besides these two no function here knows of limits.
 fn keys_from(
-    lower: [i64; LoopNest::MAX_DEPTH],
-    upper: [i64; LoopNest::MAX_DEPTH],
+    lower: &[i64; LoopNest::MAX_DEPTH],
+    upper: &[i64; LoopNest::MAX_DEPTH],
     k: usize,
     left: usize,
     prefix: i64,
     keys: &mut [i64],
     at: usize,
 ) -> usize
-    requires { ⌜ (1 ≤ left) × (k + left ≤ maxDepth) × (natAbs prefix + natAbs prefix < base ^ k) × (any crossed (limitsFrom lower upper k left) ≡ false) × (at + pointCount (limitsFrom lower upper k left) ≤ length (now keys)) ⌝ }
-    ensures { λ r. ⌜ r ≡ at + pointCount (limitsFrom lower upper k left) ⌝ }
-    ensures { λ r. ⌜ now (keys .exit) ≡ sets (now (keys .entry)) at (map (keyFrom prefix) (points (limitsFrom lower upper k left))) ⌝ }
+    requires { ⌜ (1 ≤ left) × (k + left ≤ maxDepth) × (natAbs prefix + natAbs prefix < base ^ k) × (any crossed (limitsFrom (now lower) (now upper) k left) ≡ false) × (at + pointCount (limitsFrom (now lower) (now upper) k left) ≤ length (now keys)) ⌝ }
+    ensures { λ r. ⌜ r ≡ at + pointCount (limitsFrom (now (lower .entry)) (now (upper .entry)) k left) ⌝ }
+    ensures { λ r. ⌜ now (keys .exit) ≡ sets (now (keys .entry)) at (map (keyFrom prefix) (points (limitsFrom (now (lower .entry)) (now (upper .entry)) k left))) ⌝ }
 {
+    if left == 1 {
+        return row_from(lower, upper, k, prefix, keys, at);
+    }
     let first = prefix * BASE + lower[k];
     let count = nest::extent_of(lower[k], upper[k]) as usize;
-    if left == 1 {
-        row_into(keys, at, first, count);
-        return at + count;
-    }
     let mut next = at;
     for q in 0..count {
-        next = keys_from(lower, upper, k + 1, left - 1, first + q as i64, keys, next);
+        if left == 2 {
+            next = row_from(lower, upper, k + 1, first + q as i64, keys, next);
+        } else {
+            next = keys_from(lower, upper, k + 1, left - 1, first + q as i64, keys, next);
+        }
     }
     next
 }
@@ -78,7 +100,7 @@ pub fn keys_into(s: LoopNest, keys: &mut [i64])
     let lower = s.lower;
     let upper = s.upper;
     let n = nest::to_size(s.depth);
-    keys_from(lower, upper, 0, n, 0, keys, 0);
+    keys_from(&lower, &upper, 0, n, 0, keys, 0);
 }
 
 // The keys of the dependences of an accepted nest, with 0 in the places behind their number.

@@ -24,9 +24,10 @@ to-size-requires c κs = search needs
 
 keys-from-requires : tie.Need-keys-from-requires
 keys-from-requires c κs =
-    let d = c .before .before .before .before .before in
+    let e = c .before .before .before in
+    let d = e .before .before .before .before in
     let s = d .args .s in
-    let n = depth (c .before) in
+    let n = depth e in
     let h = depth-is s (d .pre .0) in (
       omega (arith, n, h .0),
       omega (arith, n, h .1),
@@ -40,10 +41,11 @@ same-length c = search needs
 
 returns : tie.Need-returns
 returns c =
-    let d = c .before .before .before .before .before .before .before in
+    let e = c .before .before .before .before .before in
+    let d = e .before .before .before .before in
     let s = d .args .s in
     all-keys s (d .args .keys .now) (c .before .keys-from .last .1 .1 .1 .1 .1 .0) (d .pre .1)
-    (c .before .keys-from .ensures .1 ∙ ap (λ n. sets (d .args .keys .now) 0 (map (keyFrom (pos 0)) (points (limitsFrom (s .lower) (s .upper) 0 n)))) (depth (c .before .before .before)))
+    (c .before .keys-from .ensures .1 ∙ ap (λ n. sets (d .args .keys .now) 0 (map (keyFrom (pos 0)) (points (limitsFrom (s .lower) (s .upper) 0 n)))) (depth e))
 
 pub keys-into-spec : {M : Type 1} → statement M
 keys-into-spec = tie.close (tie.spec to-size-requires keys-from-requires same-length returns)
