@@ -92,7 +92,7 @@ module _ (s : LoopNest) (ok : refusal s ≡ 0) where
   key-at k h = getD-map key (pointsOf s) k [] (pos 0) h
 
   -- it is small, and so is what is read behind them
-  keys-most : (k : ℕ) → natAbs (getD (keysOf s) k (pos 0)) ≤ maxKey
+  pub keys-most : (k : ℕ) → natAbs (getD (keysOf s) k (pos 0)) ≤ maxKey
   keys-most k =
       ⊎-elim
       (λ (h : k < length (pointsOf s)). subst (λ (z : ℤ). natAbs z ≤ maxKey) (sym (key-at k h)) (key-most (point s k) (point-length s k h) (point-within s ok k h)))

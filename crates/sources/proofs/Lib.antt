@@ -1,5 +1,6 @@
 -- The order of keys, and places in a list of keys.
 pub mod KeyOrder
+pub mod Digits
 pub mod Places
 pub mod KeyTables
 pub mod NestKeys

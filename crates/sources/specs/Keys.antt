@@ -1,11 +1,12 @@
 -- One number for a vector, its key: the components are digits in a base that is larger than twice any of them. So keys are in the order of the vectors, and
 -- the key of a difference is the difference of the keys: a source is found by its key in the table of the points' keys. Nothing here knows limits, and
 -- of depths only the greatest. Assumes nothing.
-use mathlib.Core.List.{List, [], _∷_, map}
-use Prim.Native.Nat.{ℕ, _^_, _<_, _≤_}
+use mathlib.Core.List.{List, [], _∷_, _++_, map}
+use Prim.Native.Nat.{ℕ, zero, suc, _^_, _<_, _≤_}
 use lib.IntN.{ℤ, pos, natAbs, _+ℤ_, _-ℤ_, _*ℤ_}
 use lib.ListN.{length, getD}
 use lib.Signed.{_≤ℤ_, _<ℤ_, leZ}
+use Rattle.integers.specs.Division.{floorDiv}
 use Rattle.integers.specs.Lists.{place}
 use Rattle.integers.specs.Vector.{Vector, eqZ}
 use Rattle.nest.specs.declared.LoopNest.{LoopNest}
@@ -28,6 +29,19 @@ key v = keyFrom (pos 0) v
 -- no key of a vector with components below half the base is larger
 abbrev pub maxKey : ℕ
 maxKey = base ^ maxDepth
+
+-- half the base
+abbrev pub half : ℕ
+half = 2048
+
+-- a key without its last digit
+unfoldable pub above : ℤ → ℤ
+above a = floorDiv (a +ℤ pos half) (pos base)
+
+-- the n digits of a key: the vector of n components that has it
+unfoldable pub digits : ℕ → ℤ → Vector
+digits zero a = []
+digits (suc n) a = digits n (above a) ++ ((a -ℤ above a *ℤ pos base) ∷ [])
 
 -- the keys of the index points, in loop order
 unfoldable pub keysOf : LoopNest → List ℤ

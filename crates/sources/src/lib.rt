@@ -14,14 +14,20 @@ ghost use Rattle.integers.specs.Vector.{eqZ};
 ghost use Rattle.nest.specs.Nest.{part, padded, maxDepth, maxDependences, maxLimit, maxIterations};
 ghost use Rattle.nest.specs.Points.{points, pointsOf, pointCount};
 ghost use Rattle.nest.specs.Refusals.{refusal, crossed};
-ghost use Rattle.sources.specs.Keys.{base, keyFrom, key, maxKey, keysOf, distancesOf, Increasing, notBelow, targetIn, sourceIn, Searchable};
+ghost use Rattle.sources.specs.Keys.{base, keyFrom, key, maxKey, above, digits, keysOf, distancesOf, Increasing, notBelow, targetIn, sourceIn, Searchable};
 ghost use Rattle.sources.specs.Loops.{limitsFrom};
 
 // Components are digits in this base.
 const BASE: i64 = 4096;
 
+// Half the base: components are smaller.
+const HALF: i64 = 2048;
+
+// The base is 2 to this power.
+const BITS: usize = 12;
+
 // The key of n components, from place `from` on.
-fn key_of(xs: &[i64], from: usize, n: usize) -> i64
+pub fn key_of(xs: &[i64], from: usize, n: usize) -> i64
     requires { ⌜ (n ≤ maxDepth) × (from + n ≤ length (now xs)) × ((k : ℕ) → k < n → natAbs (getD (now xs) (from + k) (pos 0)) ≤ maxLimit) ⌝ }
     ensures { λ r. ⌜ r ≡ key (part (now (xs .entry)) from n) ⌝ }
 {
@@ -30,6 +36,31 @@ fn key_of(xs: &[i64], from: usize, n: usize) -> i64
         key = key * BASE + xs[from + i];
     }
     key
+}
+
+// The key without its last digit.
+fn above_digit(key: i64) -> i64
+    requires { ⌜ natAbs key ≤ maxKey ⌝ }
+    ensures { λ r. ⌜ r ≡ above key ⌝ }
+{
+    (key + HALF) >> BITS
+}
+
+// The vector of n components that has this key.
+pub fn vector_at(key: i64, n: usize) -> [i64; LoopNest::MAX_DEPTH]
+    requires { ⌜ (natAbs key ≤ maxKey) × (n ≤ maxDepth) ⌝ }
+    ensures { λ r. ⌜ r ≡ padded maxDepth (digits n key) ⌝ }
+{
+    let mut v = [0i64; LoopNest::MAX_DEPTH];
+    let mut rest = key;
+    let mut k = n;
+    while 0 < k {
+        k -= 1;
+        let above = above_digit(rest);
+        v[k] = rest - above * BASE;
+        rest = above;
+    }
+    v
 }
 
 // The keys of a row of n points, of which the first is given, into a table from place `at` on.
