@@ -281,7 +281,7 @@ fn next_messages(
 }
 
 // How many messages there are between the processors of the iterations of an accepted nest, from the keys of its index points.
-fn count_messages(s: LoopNest, keys: &[i64], processors: &[u8]) -> usize
+pub fn message_count(s: LoopNest, keys: &[i64], processors: &[u8]) -> usize
     requires { ⌜ (refusal s ≡ 0) × (now keys ≡ keysOf s) × (length (pointsOf s) ≤ length (now processors)) ⌝ }
     ensures { λ r. ⌜ r ≡ total (tab (λ k. count (isMessage s (take (length (pointsOf s)) (now (processors .entry))) k) (tab (λ i. i) (countOf s))) (length (pointsOf s))) ⌝ }
 {
@@ -294,14 +294,4 @@ fn count_messages(s: LoopNest, keys: &[i64], processors: &[u8]) -> usize
         number = number + next_messages(keys, k, m, &distances, processors, &mut cursors);
     }
     number
-}
-
-// How many messages there are between the processors of the n iterations of an accepted nest.
-pub fn message_count(s: LoopNest, n: usize, processors: &[u8]) -> usize
-    requires { ⌜ (refusal s ≡ 0) × (n ≡ length (pointsOf s)) × (n ≤ length (now processors)) ⌝ }
-    ensures { λ r. ⌜ r ≡ total (tab (λ k. count (isMessage s (take n (now (processors .entry))) k) (tab (λ i. i) (countOf s))) n) ⌝ }
-{
-    let mut keys = [0i64; LoopNest::MAX_ITERATIONS];
-    sources::keys_into(s, &mut keys);
-    count_messages(s, &keys[..n], processors)
 }

@@ -1,24 +1,22 @@
 -- The laws of a nest's index points, `pointsOf s`, and of its sources: all that the crates above use of them. No statement here speaks of limits, so where
 -- the limits of a nest change their form these laws are proved again, and nothing above them. (`rows` and the text have words about limits of their own.)
 -- Assumes nothing.
-use mathlib.Core.Path.{_≡_, refl, sym, ap, ap₂, subst, _∙_}
+use mathlib.Core.Path.{_≡_, refl, sym, ap, subst, _∙_}
 use mathlib.Core.Bool.{true, false}
 use mathlib.Core.Logic.{_↔_, ⊎-elim}
-use mathlib.Core.List.{List, [], _++_}
+use mathlib.Core.List.{List, []}
 use mathlib.Core.Option.{none, some, Option·some-injective, Option·some-ne-none}
-use Prim.Native.Nat.{ℕ, _+_, _-_, _<_, _≤_, zero-le}
+use Prim.Native.Nat.{ℕ, _<_, _≤_, zero-le}
 use native.Mathlib.Omega.{arith}
 use borrow.Author.Tests.{ltb-false}
 use lib.Dec.{ltb}
 use lib.IntN.{ℤ, pos, natAbs}
-use lib.ListN.{length, getD, drop, replicate, List·getD-eq-default}
-use lib.Seq.{drop-at}
+use lib.ListN.{length, getD, List·getD-eq-default}
 use Rattle.integers.specs.Lists.{split, below-or-not, length-tab, getD-tab, any-at, place-none, place-below, place-passes}
 use Rattle.integers.specs.Vector.{Vector, eqV, eqV-true, eqV-refl}
-use Rattle.integers.proofs.ListFacts.{getD-default}
 use Rattle.nest.specs.declared.LoopNest.{LoopNest}
 use Rattle.nest.specs.Nest.{part, padded, depthOf, countOf, limitAt, limitsOf, maxDepth, maxLimit, maxIterations}
-use Rattle.nest.specs.Points.{pointsOf, point, rank, isPoint, successor, source, Before}
+use Rattle.nest.specs.Points.{pointsOf, point, rank, isPoint, source, Before}
 use Rattle.nest.specs.Sources.{sourceRank}
 use Rattle.nest.specs.Refusals.{refusal, holds, crossed, tooManyPoints, dependence}
 use Rattle.nest.proofs.Accepted.{not-crossed, some-product}
@@ -96,21 +94,6 @@ rank-missing s j f = place-none (eqV j) (pointsOf s) f
 -- points with one rank are equal
 pub same-point : (s : LoopNest) (i j : Vector) → isPoint (pointsOf s) i ≡ true → isPoint (pointsOf s) j ≡ true → rank (pointsOf s) i ≡ rank (pointsOf s) j → i ≡ j
 same-point s i j ti tj e = sym (rank-there s i ti .1) ∙ ap (point s) e ∙ rank-there s j tj .1
-
--- ---- the successor
-
--- of every iteration but the last it is the point of the next one
-pub successor-next : (s : LoopNest) (k : ℕ) → k + 1 < length (pointsOf s) → successor (pointsOf s) (point s k) ≡ point s (k + 1)
-unfolding successor
-successor-next s k h =
-    let r = point-rank s k (omega arith) in
-    getD-default _ [] (pointsOf s) (rank (pointsOf s) (point s k) + 1) (omega (arith, r)) ∙ ap (λ n. point s (n + 1)) r
-
--- and of the last the first
-pub successor-last : (s : LoopNest) (k : ℕ) → k + 1 ≡ length (pointsOf s) → successor (pointsOf s) (point s k) ≡ point s 0
-unfolding successor
-successor-last s k h =
-    ap (λ n. getD (pointsOf s) (n + 1) (point s 0)) (point-rank s k (omega arith)) ∙ List·getD-eq-default (pointsOf s) (point s 0) (omega arith)
 
 -- ---- sources
 
@@ -193,16 +176,6 @@ pub source-in-array : (s : LoopNest) (array : List ℤ) (i : ℕ) → i < countO
 source-in-array s array i h =
     part-padded maxDepth (depthOf s) (source (part array 0 (depthOf s)) (dependence s i))
     (source-length (part array 0 (depthOf s)) (dependence s i) (depthOf s) (part-length array 0 (depthOf s)) (dependence-length s i h))
-
--- what `next_point` answers at the point of an iteration that is not the last is the point of the next one
-pub next-in-array : (s : LoopNest) (k : ℕ) (array next : List ℤ) → k + 1 < length (pointsOf s) → array ≡ padded maxDepth (point s k)
-    → next ≡ successor (pointsOf s) (part array 0 (depthOf s)) ++ drop (depthOf s) array → next ≡ padded maxDepth (point s (k + 1))
-unfolding padded
-next-in-array s k array next h e q =
-    q ∙ ap₂ (λ (v w : List ℤ). v ++ w)
-    (ap (successor (pointsOf s)) (ap (λ (v : List ℤ). part v 0 (depthOf s)) e ∙ point-in-array s k (omega arith)) ∙ successor-next s k h)
-    (ap (drop (depthOf s)) e ∙ drop-at (point s k) (replicate (maxDepth - length (point s k)) (pos 0)) (depthOf s) (point-length s k (omega arith))
-    ∙ ap (λ n. replicate (maxDepth - n) (pos 0)) (point-length s k (omega arith) ∙ sym (point-length s (k + 1) h)))
 
 -- the rank j that `source_at` answers along dependence i, at the point of iteration k in an array
 module _ (s : LoopNest) (k i j : ℕ) (array : List ℤ) (h : k < length (pointsOf s)) (p : array ≡ padded maxDepth (point s k))

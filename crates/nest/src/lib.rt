@@ -4,12 +4,12 @@ ghost use mathlib.Core.Bool.{true, false};
 ghost use Prim.Native.Nat.{ℕ, _+_, _*_, _<_, _≤_};
 ghost use lib.IntN.{pos, natAbs, _+ℤ_, _-ℤ_};
 ghost use lib.Signed.{ltZ, _≤ℤ_};
-ghost use mathlib.Core.List.{[], _++_};
-ghost use lib.ListN.{length, getD, set, drop};
+ghost use mathlib.Core.List.{[]};
+ghost use lib.ListN.{length, getD, set};
 ghost use Rattle.integers.specs.Lists.{any, repeats, tab};
 ghost use Rattle.integers.specs.Vector.{dots, eqV};
 ghost use Rattle.nest.specs.Nest.{emptyNest, withComponent, padded, part, toℕ, depthOf, countOf, limitAt, dependenceAt, maxDepth, maxDependences, maxCube, maxLimit, maxIterations, maxComponent, maxBoundary, maxWeight};
-ghost use Rattle.nest.specs.Points.{extent, points, pointsOf, pointCount, rank, isPoint, successor, source};
+ghost use Rattle.nest.specs.Points.{extent, points, pointsOf, pointCount, rank, isPoint, source};
 ghost use Rattle.nest.specs.Refusals.{outside, crossed, outOfSpan, backward, refusal, firstMet, headerOrder, limitOrder, vectorOrder, weightOrder, noRoom, dependence, Checks, Inspects};
 
 // no such depth: n out of span
@@ -363,10 +363,10 @@ fn any_equal(dependences: &[i64], n: usize, m: usize) -> bool
     false
 }
 
-// The inner product of n places of the time vector with n places of another array, from place `from` on; all are in the span of a component.
-fn inner_product(time: &[i64], xs: &[i64], from: usize, n: usize) -> i64
+// The inner product of n places of the time vector with n places of another array, from place `from` on, which are in the span of an index.
+pub fn inner_product(time: &[i64], xs: &[i64], from: usize, n: usize) -> i64
     requires { ⌜ (n ≤ maxDepth) × (n ≤ length (now time)) × (from + n ≤ length (now xs)) ⌝ }
-    requires { ⌜ (outOfSpan (part (now time) 0 n) ≡ false) × (outOfSpan (part (now xs) from n) ≡ false) ⌝ }
+    requires { ⌜ ((k : ℕ) → k < n → (natAbs (getD (now time) k (pos 0)) ≤ maxComponent) × (natAbs (getD (now xs) (from + k) (pos 0)) ≤ maxLimit)) ⌝ }
     ensures { λ r. ⌜ r ≡ dots (part (now (time .entry)) 0 n) (part (now (xs .entry)) from n) ⌝ }
 {
     let mut sum: i64 = 0;
@@ -548,41 +548,6 @@ pub fn point_of(s: LoopNest, rank: usize) -> [i64; LoopNest::MAX_DEPTH]
     let upper = s.upper;
     let n = to_size(s.depth);
     point_within(lower, upper, n, rank as u64)
-}
-
-// The index point behind one in loop order, of n loops whose limits are not crossed, and the first behind the last; the places behind the n indices stay as
-// they are. The innermost index that is below its upper limit goes up by one, and those inside it go back to their lower limits.
-fn next_within(
-    lower: [i64; LoopNest::MAX_DEPTH],
-    upper: [i64; LoopNest::MAX_DEPTH],
-    n: usize,
-    point: [i64; LoopNest::MAX_DEPTH],
-) -> [i64; LoopNest::MAX_DEPTH]
-    requires { ⌜ (n ≤ maxDepth) × (any crossed (tab (limitAt lower upper) n) ≡ false) × (isPoint (points (tab (limitAt lower upper) n)) (part point 0 n) ≡ true) ⌝ }
-    ensures { λ p. ⌜ p ≡ successor (points (tab (limitAt lower upper) n)) (part point 0 n) ++ drop n point ⌝ }
-{
-    let mut next = point;
-    let mut k = n;
-    while 0 < k {
-        k -= 1;
-        if next[k] < upper[k] {
-            next[k] = next[k] + 1;
-            return next;
-        }
-        next[k] = lower[k];
-    }
-    next
-}
-
-// The index point behind one of an accepted nest in loop order, and the first behind the last; the places behind the depth stay as they are.
-pub fn next_point(s: LoopNest, point: [i64; LoopNest::MAX_DEPTH]) -> [i64; LoopNest::MAX_DEPTH]
-    requires { ⌜ (refusal s ≡ 0) × (isPoint (pointsOf s) (part point 0 (depthOf s)) ≡ true) ⌝ }
-    ensures { λ p. ⌜ p ≡ successor (pointsOf s) (part point 0 (depthOf s)) ++ drop (depthOf s) point ⌝ }
-{
-    let lower = s.lower;
-    let upper = s.upper;
-    let n = to_size(s.depth);
-    next_within(lower, upper, n, point)
 }
 
 // The rank of a point, of n loops whose limits are not crossed; the number of index points where it is none of them.

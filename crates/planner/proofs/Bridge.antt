@@ -22,8 +22,7 @@ use Rattle.partition.proofs.Theorems.{chosen-bound}
 use Rattle.mapping.specs.Mapping.{inOrder, processorsOf, processorCount, isMessage, total, messageCount}
 use Rattle.mapping.specs.GroupNumbers.{Laid, HasRows, valuesIn, numberAt}
 use Rattle.mapping.proofs.Theorems.{groups-length, processors-length, table-below, table-processors, table-messages}
-use Rattle.sequential.specs.Sequential.{sequential, loop, ruleOf, valuesOf, filled}
-use Rattle.sequential.proofs.FillLaws.{filledTo, filled-table}
+use Rattle.sequential.specs.Sequential.{sequential, loop, ruleOf, valuesOf}
 use Rattle.planner.specs.declared.Planning.{Planning}
 use Rattle.planner.specs.Plan.{planAnswer}
 
@@ -90,10 +89,10 @@ module _ (s : LoopNest) (rest : List ℕ) (n : ℕ) (e : n ≡ length (pointsOf 
 
 -- ---- the values and the answer
 
--- a table that is long enough is filled with the values
-pub filled-values : (s : LoopNest) (old : List ℕ) (n : ℕ) → refusal s ≡ 0 → n ≡ length (pointsOf s) → n ≤ length old → filled s old ≡ valuesOf s ++ drop n old
+-- the table that the loop leaves starts with the values
+pub loop-values : (s : LoopNest) (old : List ℕ) (n : ℕ) → n ≡ length (pointsOf s) → loop (ruleOf s) s (length (pointsOf s)) ++ drop (length (pointsOf s)) old ≡ valuesOf s ++ drop n old
 unfolding valuesOf sequential
-filled-values s old n ok e h = sym (filled-table s old (filledTo s old n) n ok e h refl .1) ∙ ap (λ (k : ℕ). loop (ruleOf s) s k ++ drop n old) e
+loop-values s old n e = ap (λ (k : ℕ). loop (ruleOf s) s (length (pointsOf s)) ++ drop k old) (sym e)
 
 -- the answer to a call that is not refused
 pub answer-is : (s : LoopNest) (n a b p m : ℕ) → n ≡ length (pointsOf s) → a ≡ stepCount s → b ≡ blockCount s → p ≡ processorCount s → m ≡ messageCount s

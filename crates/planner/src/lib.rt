@@ -72,11 +72,14 @@ fn make(
     ensures { λ r. ⌜ now (processors .exit) ≡ processorsOf s ++ drop n (now (processors .entry)) ⌝ }
     ensures { λ r. ⌜ now (values .exit) ≡ valuesOf s ++ drop n (now (values .entry)) ⌝ }
 {
-    let step_count = partition::steps_into(s, n, steps);
+    let mut table = [0i64; LoopNest::MAX_ITERATIONS];
+    sources::keys_into(s, &mut table);
+    let keys = &table[..n];
+    let step_count = partition::steps_into(s, keys, steps);
     let block_count = place_blocks(s, n, blocks, processors);
     let processor_count = mapping::processor_count(processors, n);
-    let message_count = mapping::message_count(s, n, processors);
-    sequential::fill(s, values);
+    let message_count = mapping::message_count(s, keys, processors);
+    sequential::fill_by_keys(s, keys, values);
     Planning {
         refusal: 0,
         iterations: n,

@@ -122,7 +122,7 @@ fn next_value(
 }
 
 // The values of the iterations of an accepted nest, in loop order, from the keys of its index points.
-fn fill_by_keys(s: LoopNest, keys: &[i64], values: &mut [u16])
+pub fn fill_by_keys(s: LoopNest, keys: &[i64], values: &mut [u16])
     requires { ⌜ (refusal s ≡ 0) × (now keys ≡ keysOf s) × (length (pointsOf s) ≤ length (now values)) ⌝ }
     ensures { λ _. ⌜ now (values .exit) ≡ loop (ruleOf s) s (length (pointsOf s)) ++ drop (length (pointsOf s)) (now (values .entry)) ⌝ }
 {

@@ -1,5 +1,6 @@
--- The digits of a key: those of a vector's key are its components, for vectors of any length whose components are below half the base. Assumes nothing.
-use mathlib.Core.Path.{_≡_, refl, sym, ap, ap₂, _∙_}
+-- The digits of a key: those of a vector's key are its components, for vectors of any length whose components are below half the base; and those of keys that
+-- are one apart. Assumes nothing.
+use mathlib.Core.Path.{_≡_, refl, sym, ap, ap₂, subst, _∙_}
 use mathlib.Core.List.{List, [], _∷_, _++_, append-assoc, append-nil}
 use Prim.Native.Nat.{ℕ, zero, suc, _+_, _-_, _^_, _<_, _≤_}
 use native.Mathlib.Nat as NatL
@@ -7,12 +8,12 @@ use native.Mathlib.Numerals.{add-one}
 use native.Mathlib.Omega.{arith}
 use lib.IntN.{ℤ, pos, negsuc, natAbs, _+ℤ_, _-ℤ_, _*ℤ_, *ℤ-comm}
 use lib.ListN.{length, drop, set, replicate, length-append}
-use lib.Seq.{drop-cons, lt-length-set, getD-set-same, drop-set-lt}
+use lib.Seq.{drop-cons, lt-length-set, getD-at, getD-set-same, drop-set-lt}
 use lib.Signed.{_≤ℤ_, _<ℤ_, shrZ}
 use Rattle.integers.specs.Division.{floorDiv, floorDiv-is, floor-is}
-use Rattle.integers.specs.Linear.{ints, sum, scale, sizes}
+use Rattle.integers.specs.Linear.{ints, sum, dif, scale, sizes}
 use Rattle.integers.specs.Solver.{var, con, _⊕_, _⊖_, _⊗_, ring}
-use Rattle.integers.specs.Vector.{Vector, AllWithin}
+use Rattle.integers.specs.Vector.{Vector, AllWithin, getD-within}
 use Rattle.nest.specs.Nest.{padded, maxDepth}
 use Rattle.nest.proofs.Padding.{drop-zeros}
 use Rattle.sources.specs.Keys.{base, half, keyFrom, key, maxKey, above, digits}
@@ -77,6 +78,29 @@ module _ (A : ℕ) (h : A + A < base) where
   pub digits-key : (v : Vector) → AllWithin A v → digits (length v) (key v) ≡ v
   unfolding key digits
   digits-key v w = ap (λ n. digits n (keyFrom (pos 0) v)) (sym (NatL.add-zero (length v))) ∙ digits-from 0 (pos 0) v w
+
+-- ---- neighbours in a row
+
+-- a key's last digit
+abbrev pub lastDigit : ℤ → ℤ
+lastDigit a = a -ℤ above a *ℤ pos base
+
+-- it is one of the digits
+last-within : (A n : ℕ) (a : ℤ) → AllWithin A (digits (suc n) a) → natAbs (lastDigit a) ≤ A
+unfolding digits
+last-within A n a w = subst (λ (z : ℤ). natAbs z ≤ A) (getD-at (digits n (above a)) (lastDigit a) [] (pos 0) n (length-digits n (above a))) (getD-within A (digits n (above a) ++ (lastDigit a ∷ [])) n w)
+
+-- keys that are one apart have the same digits but for the last, which are one apart
+pub digits-next : (A n : ℕ) (a b : ℤ) → A + A + 1 < base → AllWithin A (digits (suc n) a) → AllWithin A (digits (suc n) b) → b -ℤ a ≡ pos 1 → (above b ≡ above a) × (lastDigit b ≡ lastDigit a +ℤ pos 1)
+digits-next A n a b h wa wb e =
+    let x = last-within A n a wa in
+    let y = last-within A n b wb in
+    let p = above a in
+    let q = above b in
+    let s : pos base *ℤ q -ℤ pos base *ℤ p ≡ pos 1 +ℤ (lastDigit a -ℤ lastDigit b) =
+    ring (a ∷ b ∷ p ∷ q ∷ []) (con (pos base) ⊗ var 3 ⊖ con (pos base) ⊗ var 2) ((var 1 ⊖ var 0) ⊕ ((var 0 ⊖ var 2 ⊗ con (pos base)) ⊖ (var 1 ⊖ var 3 ⊗ con (pos base)))) tt ∙ ap (λ (z : ℤ). z +ℤ (lastDigit a -ℤ lastDigit b)) e in
+    let r : q ≡ p = omega (ints, s, dif (pos base *ℤ q) (pos base *ℤ p), scale base q, scale base p, sum (pos 1) (lastDigit a -ℤ lastDigit b), dif (lastDigit a) (lastDigit b), sizes (lastDigit a), sizes (lastDigit b), x, y) in
+    (r, ap (λ (z : ℤ). b -ℤ z *ℤ pos base) r ∙ ring (a ∷ b ∷ p ∷ []) (var 1 ⊖ var 2 ⊗ con (pos base)) ((var 0 ⊖ var 2 ⊗ con (pos base)) ⊕ (var 1 ⊖ var 0)) tt ∙ ap (λ (z : ℤ). lastDigit a +ℤ z) e)
 
 -- ---- the digits in an array, from the last on
 

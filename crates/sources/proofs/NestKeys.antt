@@ -3,26 +3,26 @@
 use mathlib.Core.Path.{_≡_, sym, ap, ap₂, subst, subst₂, _∙_}
 use mathlib.Core.Bool.{false}
 use mathlib.Core.List.{[], map}
-use Prim.Native.Nat.{ℕ, suc, _+_, _*_, _-_, _<_, _≤_}
+use Prim.Native.Nat.{ℕ, _+_, _*_, _<_, _≤_}
 use native.Mathlib.Omega.{arith}
 use lib.IntN.{ℤ, pos, natAbs, _-ℤ_}
 use lib.ListN.{length, getD}
 use lib.Signed.{_<ℤ_}
 use Rattle.integers.specs.Lists.{place, getD-tab, any-tab-each}
-use Rattle.integers.specs.Vector.{Vector, AllWithin, all-wider, all-each, all-minus, minus, eqZ}
+use Rattle.integers.specs.Vector.{Vector, AllWithin, all-wider, all-each, all-minus, eqZ}
 use Rattle.integers.proofs.ListFacts.{getD-map}
 use Rattle.nest.specs.declared.LoopNest.{LoopNest}
 use Rattle.nest.specs.Nest.{part, depthOf, countOf, dependenceAt, dependencesOf, maxDepth, maxLimit, maxComponent}
 use Rattle.nest.specs.Points.{pointsOf, point, rank, source}
 use Rattle.nest.specs.Refusals.{refusal, backward, backwardDependence, dependence, holds}
-use Rattle.nest.proofs.Accepted.{component-size, depth-is}
+use Rattle.nest.proofs.Accepted.{component-size}
 use Rattle.nest.proofs.PointLaws.{point-length, point-size, points-ordered}
 use Rattle.nest.proofs.Refused.{accepted}
 use Rattle.nest.proofs.Sources.{source-before, source-length, dependence-length}
 use Rattle.nest.proofs.Words.{dependence-at}
 use Rattle.sources.specs.Keys.{key, digits, keysOf, Increasing}
 use Rattle.sources.proofs.Digits.{digits-key}
-use Rattle.sources.proofs.KeyOrder.{lastUnit, key-minus, key-before, key-next}
+use Rattle.sources.proofs.KeyOrder.{key-minus, key-before}
 use Rattle.sources.proofs.KeyTables.{Ordered, keys-increase, place-rank}
 
 -- ---- an accepted nest
@@ -60,14 +60,6 @@ module _ (s : LoopNest) (ok : refusal s ≡ 0) where
   unfolding keysOf
   digits-point k h =
       ap₂ digits (sym (point-length s k h)) (getD-map key (pointsOf s) k [] (pos 0) h) ∙ digits-key maxLimit (omega arith) (point s k) (point-within k h)
-
-  -- points with keys one apart are neighbours in a row
-  pub points-next : (i k : ℕ) → i < length (pointsOf s) → k < length (pointsOf s) → getD (keysOf s) k (pos 0) -ℤ getD (keysOf s) i (pos 0) ≡ pos 1 → minus (point s k) (point s i) ≡ lastUnit (depthOf s - 1)
-  unfolding keysOf
-  points-next i k hi hk e =
-      let one : depthOf s ≡ suc (depthOf s - 1) = omega (arith, depth-is s ok .0) in
-      key-next maxLimit (omega arith) (omega arith) (depthOf s - 1) (point s i) (point s k) (point-length s i hi ∙ one) (point-length s k hk ∙ one) (point-within i hi) (point-within k hk)
-      (sym (ap₂ (λ (x y : ℤ). x -ℤ y) (getD-map key (pointsOf s) k [] (pos 0) hk) (getD-map key (pointsOf s) i [] (pos 0) hi)) ∙ e)
 
   module _ (k i : ℕ) (hk : k < length (pointsOf s)) (hi : i < countOf s) where
     -- the source
