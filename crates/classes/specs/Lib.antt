@@ -1,2 +1,0 @@
--- The point before a point on its projection line.
-pub mod Neighbours
