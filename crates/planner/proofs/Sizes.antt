@@ -1,6 +1,5 @@
 -- Every number of an accepted nest's plan is below 1000000, so that six columns hold it and the plan's text has 31 bytes a line. Assumes nothing.
 use mathlib.Core.Path.{_≡_, refl, ap, subst, _∙_}
-use mathlib.Core.Bool.{Bool}
 use mathlib.Core.List.{List, [], _∷_, map, flatMap, append-nil}
 use Prim.Native.Nat.{ℕ, _+_, _*_, _<_, _≤_}
 use native.Mathlib.Nat.{mul-le-mul}
@@ -8,7 +7,7 @@ use native.Mathlib.Omega.{arith}
 use lib.Dec.{eqb}
 use lib.IntN.{pos}
 use lib.ListN.{length, getD, length-append}
-use Rattle.integers.specs.Lists.{any, tab, length-tab, count, firsts, firstsAfter, flatMap-length, split}
+use Rattle.integers.specs.Lists.{tab, length-tab, count, firsts, flatMap-length}
 use Rattle.nest.specs.declared.LoopNest.{LoopNest}
 use Rattle.nest.specs.Nest.{countOf}
 use Rattle.nest.specs.Points.{pointsOf}
@@ -16,6 +15,7 @@ use Rattle.nest.specs.Refusals.{refusal}
 use Rattle.nest.proofs.Accepted.{count-is}
 use Rattle.nest.proofs.PointLaws.{few-points}
 use Rattle.nest_text.specs.Text.{line}
+use Rattle.numbering.proofs.ByFirst.{firsts-few}
 use Rattle.grouping.specs.Grouping.{eqG, blocks}
 use Rattle.partition.specs.Partition.{stepsOf, groupsOf, blocksOf, blockCount}
 use Rattle.partition.proofs.Theorems.{step-few, steps-few, block-below}
@@ -29,13 +29,6 @@ use Rattle.planner.specs.Plan.{countsOf}
 use Rattle.planner.specs.Rows.{rowOf}
 use Rattle.planner.specs.Listing.{planLines, planText}
 use Rattle.planner.proofs.LineLaws.{AllSmall, nth-small, counts-length, lines-cons}
-
--- no more are different than there are
-firsts-few : {A : Type 0} (same : A → A → Bool) (kept xs : List A) → length (firstsAfter same kept xs) ≤ length xs
-unfolding firstsAfter
-firsts-few same kept [] = omega arith
-firsts-few same kept (x ∷ xs) =
-    split (any (same x) kept) (λ t. rw (t, firstsAfter) (omega (arith, firsts-few same kept xs))) (λ f. rw (f, firstsAfter) (omega (arith, firsts-few same (x ∷ kept) xs)))
 
 module _ (s : LoopNest) (ok : refusal s ≡ 0) where
   -- ---- the counts
