@@ -211,8 +211,8 @@ fn fill_processors(
     }
 }
 
-// The processors of n iterations whose groups stand in `rows`, in a hypercube of dimension c.
-pub fn processors_into(rows: &[i64], n: usize, c: usize, processors: &mut [u8])
+// The processors of n blocks whose groups stand in `rows`, in a hypercube of dimension c.
+fn block_processors(rows: &[i64], n: usize, c: usize, processors: &mut [u8])
     requires { ⌜ (1 ≤ n) × (n ≤ maxIterations) × (c ≤ maxCube) × HasRows (now rows) n × (n ≤ length (now processors)) ⌝ }
     ensures { λ _. ⌜ now (processors .exit) ≡ processorsIn (now (rows .entry)) n c ++ drop n (now (processors .entry)) ⌝ }
 {
@@ -221,6 +221,34 @@ pub fn processors_into(rows: &[i64], n: usize, c: usize, processors: &mut [u8])
     let width = spans.width;
     let bits = deal(width, c);
     fill_processors(rows, n, least, width, bits, processors);
+}
+
+// The processor of each of n iterations: that of its block.
+fn place_iterations(owners: &[u8], blocks: &[u16], n: usize, processors: &mut [u8])
+    requires { ⌜ (n ≤ length (now blocks)) × (n ≤ length (now processors)) × (length (now owners) ≤ maxIterations) × ((k : ℕ) → k < n → getD (now blocks) k 0 < length (now owners)) ⌝ }
+    ensures { λ _. ⌜ now (processors .exit) ≡ tab (λ k. getD (now (owners .entry)) (getD (now (blocks .entry)) k 0) 0) n ++ drop n (now (processors .entry)) ⌝ }
+{
+    for k in 0..n {
+        processors[k] = owners[blocks[k] as usize];
+    }
+}
+
+// The processors of n iterations, whose blocks are given, in a hypercube of dimension c. Row b of `rows` has the group of block b, of so many blocks.
+pub fn processors_into(
+    rows: &[i64],
+    count: usize,
+    c: usize,
+    blocks: &[u16],
+    n: usize,
+    processors: &mut [u8],
+)
+    requires { ⌜ (1 ≤ count) × (count ≤ maxIterations) × (c ≤ maxCube) × HasRows (now rows) count ⌝ }
+    requires { ⌜ (n ≤ length (now blocks)) × (n ≤ length (now processors)) × ((k : ℕ) → k < n → getD (now blocks) k 0 < count) ⌝ }
+    ensures { λ _. ⌜ now (processors .exit) ≡ tab (λ k. getD (processorsIn (now (rows .entry)) count c) (getD (now (blocks .entry)) k 0) 0) n ++ drop n (now (processors .entry)) ⌝ }
+{
+    let mut owners = [0u8; LoopNest::MAX_ITERATIONS];
+    block_processors(rows, count, c, &mut owners);
+    place_iterations(&owners, blocks, n, processors);
 }
 
 // 1 for a flag that is not set, 0 for any other.

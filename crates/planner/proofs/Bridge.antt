@@ -1,4 +1,4 @@
--- The partition's table of groups is one that the mapping reads; and what the called functions ensure, as the plan's parts. Assumes nothing.
+-- The partition's table of the blocks' groups is one that the mapping reads; and what the called functions ensure, as the plan's parts. Assumes nothing.
 use mathlib.Core.Path.{_≡_, refl, sym, ap, ap₂, subst, _∙_}
 use mathlib.Core.List.{List, [], _∷_, _++_, reverse}
 use Prim.Native.Nat.{ℕ, zero, suc, _*_, _^_, _<_, _≤_}
@@ -13,15 +13,15 @@ use Rattle.nest.specs.Nest.{padded, timeOf, dependencesOf, countOf, maxDepth, m
 use Rattle.nest.specs.Points.{pointsOf}
 use Rattle.nest.specs.Refusals.{refusal}
 use Rattle.nest.proofs.Accepted.{depth-is}
-use Rattle.grouping.specs.Grouping.{Group, chosenCount}
-use Rattle.partition.specs.Partition.{groupsOf, noGroup, stepCount, blockCount}
+use Rattle.grouping.specs.Grouping.{Group}
+use Rattle.partition.specs.Partition.{noGroup, stepCount, blockCount, blockGroups, chosenOf}
 use Rattle.grouping.specs.Basis.{pick, Fill}
 use Rattle.numbering.specs.Tables.{row}
 use Rattle.partition.specs.GroupRows.{GroupRow, GroupTable}
 use Rattle.partition.proofs.Theorems.{chosen-bound}
 use Rattle.mapping.specs.Mapping.{inOrder, processorsOf, processorCount, isMessage, total, messageCount}
 use Rattle.mapping.specs.GroupNumbers.{Laid, HasRows, valuesIn, numberAt}
-use Rattle.mapping.proofs.Theorems.{groups-length, processors-length, table-below, table-processors, table-messages}
+use Rattle.mapping.proofs.Theorems.{processors-length, table-below, table-processors, table-messages}
 use Rattle.sequential.specs.Sequential.{sequential, loop, ruleOf, valuesOf}
 use Rattle.planner.specs.declared.Planning.{Planning}
 use Rattle.planner.specs.Plan.{planAnswer}
@@ -51,23 +51,24 @@ unfolding valuesIn
 values-are rows k count g h r =
     ap (λ (a : ℤ). numberAt rows 1 k ∷ numberAt rows 2 k ∷ a ∷ []) (number-is rows k 0 (omega arith) ∙ r .class-is) ∙ order-is count (numberAt rows 1 k) (numberAt rows 2 k) (getD (row rows k) 3 (pos 0)) g h (r .fill) (r .along-is)
 
-module _ (s : LoopNest) (ok : refusal s ≡ 0) (rows₀ rows : List ℤ) (T : GroupTable s rows₀ rows) (h : length (pointsOf s) * 4 ≤ length rows₀) where
+module _ (s : LoopNest) (ok : refusal s ≡ 0) (rows : List ℤ) (T : GroupTable (chosenOf s) (blockGroups s) rows) (h : blockCount s * 4 ≤ length rows) where
   -- at most two chosen vectors
-  few : chosenCount (timeOf s) (dependencesOf s) ≤ 2
+  few : chosenOf s ≤ 2
   few = omega (arith, chosen-bound s ok, depth-is s ok .1)
 
-  -- there is a row for each iteration
-  pub has-rows : (n : ℕ) → n ≡ length (pointsOf s) → HasRows rows n
+  -- there is a row for each block
+  pub has-rows : (n : ℕ) → n ≡ blockCount s → HasRows rows n
+  unfolding blockCount
   has-rows n e = record {
-    room = omega (arith, T .size, h, e);
-    sized = λ k j l b. subst (λ (z : ℤ). natAbs z ≤ 1000000000) (sym (number-is rows k j b)) (getD-within 1000000000 (row rows k) j (T .rows-are k (omega (arith, l, e)) .within));
+    room = omega (arith, h, e);
+    sized = λ k j l b. subst (λ (z : ℤ). natAbs z ≤ 1000000000) (sym (number-is rows k j b)) (getD-within 1000000000 (row rows k) j (T k (omega (arith, l, e)) .within));
   }
 
   -- the table holds the groups
-  pub laid : Laid (groupsOf s) rows
+  pub laid : Laid (blockGroups s) rows
   laid = record {
-    has-rows = has-rows (length (groupsOf s)) (groups-length s);
-    laid = λ k l j b. ap (λ (v : Vector). getD v j (pos 0)) (values-are rows k (chosenCount (timeOf s) (dependencesOf s)) (getD (groupsOf s) k noGroup) few (T .rows-are k (omega (arith, l, groups-length s))));
+    has-rows = has-rows (length (blockGroups s)) (unfold blockCount in refl);
+    laid = λ k l j b. ap (λ (v : Vector). getD v j (pos 0)) (values-are rows k (chosenOf s) (getD (blockGroups s) k noGroup) few (T k l));
   }
 
 -- ---- a table that starts with the processors

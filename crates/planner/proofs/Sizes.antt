@@ -32,7 +32,7 @@ use Rattle.planner.proofs.LineLaws.{AllSmall, nth-small, counts-length,
 
 module _ (s : LoopNest) (ok : refusal s ≡ 0) where
   -- ---- the counts
-  blocks-few : blockCount s ≤ length (pointsOf s)
+  pub blocks-few : blockCount s ≤ length (pointsOf s)
   unfolding blockCount blocks firsts
   blocks-few = omega (arith, firsts-few eqG [] (groupsOf s), groups-length s)
 

@@ -11,6 +11,7 @@ ghost use lib.ListN.{length, drop};
 ghost use lib.Seq.{sets};
 ghost use Rattle.nest.specs.Points.{pointsOf};
 ghost use Rattle.nest.specs.Refusals.{refusal};
+ghost use Rattle.sources.specs.Keys.{keysOf};
 ghost use Rattle.partition.specs.Partition.{stepsOf, blocksOf, blockCount};
 ghost use Rattle.mapping.specs.Mapping.{processorsOf};
 ghost use Rattle.sequential.specs.Sequential.{valuesOf};
@@ -42,17 +43,17 @@ fn refused(refusal: u8) -> Planning
     }
 }
 
-// The blocks and the processors of the n iterations of an accepted nest, into two tables. Answers how many blocks there are.
-fn place_blocks(s: LoopNest, n: usize, blocks: &mut [u16], processors: &mut [u8]) -> usize
-    requires { ⌜ (refusal s ≡ 0) × (n ≡ length (pointsOf s)) × (n ≤ length (now blocks)) × (n ≤ length (now processors)) ⌝ }
+// The blocks and the processors of the iterations of an accepted nest, from the keys of its index points, into two tables. Answers how many blocks there are.
+fn place_blocks(s: LoopNest, keys: &[i64], blocks: &mut [u16], processors: &mut [u8]) -> usize
+    requires { ⌜ (refusal s ≡ 0) × (now keys ≡ keysOf s) × (length (pointsOf s) ≤ length (now blocks)) × (length (pointsOf s) ≤ length (now processors)) ⌝ }
     ensures { λ r. ⌜ r ≡ blockCount s ⌝ }
-    ensures { λ r. ⌜ now (blocks .exit) ≡ blocksOf s ++ drop n (now (blocks .entry)) ⌝ }
-    ensures { λ r. ⌜ now (processors .exit) ≡ processorsOf s ++ drop n (now (processors .entry)) ⌝ }
+    ensures { λ r. ⌜ now (blocks .exit) ≡ blocksOf s ++ drop (length (pointsOf s)) (now (blocks .entry)) ⌝ }
+    ensures { λ r. ⌜ now (processors .exit) ≡ processorsOf s ++ drop (length (pointsOf s)) (now (processors .entry)) ⌝ }
 {
     let mut groups = [0i64; LoopNest::MAX_ITERATIONS * 4];
-    let count = partition::blocks_into(s, n, &mut groups, blocks);
+    let count = partition::blocks_into(s, keys, &mut groups, blocks);
     let cube = nest::to_size(s.cube);
-    mapping::processors_into(&groups, n, cube, processors);
+    mapping::processors_into(&groups, count, cube, blocks, keys.len(), processors);
     count
 }
 
@@ -76,7 +77,7 @@ fn make(
     sources::keys_into(s, &mut table);
     let keys = &table[..n];
     let step_count = partition::steps_into(s, keys, steps);
-    let block_count = place_blocks(s, n, blocks, processors);
+    let block_count = place_blocks(s, keys, blocks, processors);
     let processor_count = mapping::processor_count(processors, n);
     let message_count = mapping::message_count(s, keys, processors);
     sequential::fill_by_keys(s, keys, values);

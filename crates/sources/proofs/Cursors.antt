@@ -80,7 +80,7 @@ module _ (s : LoopNest) (ok : refusal s ≡ 0) where
   keys-front new rest n e h = (omega (arith, keys-length, ap length e ∙ length-append (keysOf s) rest), ap (take n) e ∙ take-at (keysOf s) rest n (keys-length ∙ sym h))
 
   -- the key of a vector of the nest's depth
-  key-most : (v : Vector) → length v ≡ depthOf s → AllWithin maxLimit v → natAbs (key v) ≤ maxKey
+  pub key-most : (v : Vector) → length v ≡ depthOf s → AllWithin maxLimit v → natAbs (key v) ≤ maxKey
   key-most v e w =
       let p = key-size maxLimit (omega arith) v w in
       let q : base ^ length v ≤ maxKey = power-most (length v) (omega (arith, depth-is s ok .1)) in

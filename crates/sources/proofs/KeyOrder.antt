@@ -1,20 +1,20 @@
--- Keys are in the order of the vectors, no two vectors have one key, and the key of a difference is the difference of the keys: for vectors of any one length
--- whose components are below half the base. Assumes nothing.
+-- Keys are in the order of the vectors, no two vectors have one key, the key of a difference is the difference of the keys, and keys that are one apart are those
+-- of neighbours in a row: for vectors of any one length whose components are below half the base. Assumes nothing.
 use mathlib.Core.Path.{_≡_, refl, sym, ap, ap₂, subst, _∙_}
 use mathlib.Core.Logic.{_⊎_, inl, inr}
 use mathlib.Core.List.{[], _∷_, _++_}
-use Prim.Native.Nat.{ℕ, suc, _+_, _*_, _^_, _<_, _≤_}
+use Prim.Native.Nat.{ℕ, zero, suc, _+_, _*_, _^_, _<_, _≤_}
 use native.Mathlib.Nat as NatL
 use native.Mathlib.Omega.{arith}
 use lib.IntN.{ℤ, pos, negsuc, natAbs, _+ℤ_, _-ℤ_, _*ℤ_}
-use lib.ListN.{length}
+use lib.ListN.{length, length-append, length-replicate}
 use lib.Signed.{_≤ℤ_, _<ℤ_}
 use Rattle.integers.specs.Bounds.{abs-+, abs-*}
 use Rattle.integers.specs.Lists.{clash, split}
 use Rattle.integers.specs.Linear.{ints, sum, sizes}
 use Rattle.integers.specs.Order.{*-mono-r, decide}
 use Rattle.integers.specs.Solver.{var, con, _⊕_, _⊖_, _⊗_, ring}
-use Rattle.integers.specs.Vector.{Vector, plus, times, minus, AllWithin, length-plus, length-times, eqZ, eqV, eqZ-same, eqZ-other, eqV-true, eqV-same}
+use Rattle.integers.specs.Vector.{Vector, plus, times, minus, zeros, AllWithin, all-minus, length-plus, length-times, eqZ, eqV, eqZ-same, eqZ-other, eqV-true, eqV-same}
 use Rattle.nest.specs.Points.{Before}
 use Rattle.sources.specs.Keys.{base, keyFrom, key}
 
@@ -131,3 +131,32 @@ key-minus (x ∷ v) (y ∷ w) e =
     ∙ ap₂ (λ (m : ℕ) (k : ℤ). (x +ℤ negsuc 0 *ℤ y) *ℤ weight m +ℤ k) l (key-minus v w n)
     ∙ ring (x ∷ y ∷ weight (length v) ∷ key v ∷ key w ∷ []) ((var 0 ⊕ con (negsuc 0) ⊗ var 1) ⊗ var 2 ⊕ (var 3 ⊖ var 4)) (var 0 ⊗ var 2 ⊕ var 3 ⊖ (var 1 ⊗ var 2 ⊕ var 4)) tt
     ∙ ap₂ (λ (a b : ℤ). a -ℤ b) (sym (key-cons x v)) (ap (λ m. y *ℤ weight m +ℤ key w) n ∙ sym (key-cons y w))
+
+-- ---- neighbours in a row
+
+-- no digit but zeros
+key-zeros : (n : ℕ) → key (zeros n) ≡ pos 0
+unfolding key keyFrom
+key-zeros zero = refl
+key-zeros (suc n) = key-cons (pos 0) (zeros n) ∙ ap (λ (k : ℤ). pos 0 *ℤ weight (length (zeros n)) +ℤ k) (key-zeros n) ∙ ring (weight (length (zeros n)) ∷ []) (con (pos 0) ⊗ var 0 ⊕ con (pos 0)) (con (pos 0)) tt
+
+-- the vector of n zeros and a 1 behind them
+abbrev pub lastUnit : ℕ → Vector
+lastUnit n = zeros n ++ (pos 1 ∷ [])
+
+-- it has the key 1
+last-key : (n : ℕ) → key (lastUnit n) ≡ pos 1
+unfolding key
+last-key n = key-snoc (pos 0) (zeros n) (pos 1) ∙ ap (λ (k : ℤ). k *ℤ pos base +ℤ pos 1) (unfold key in key-zeros n)
+
+-- its components are small
+last-within : (A n : ℕ) → 1 ≤ A → AllWithin A (lastUnit n)
+last-within A zero h = (omega arith, tt)
+last-within A (suc n) h = (omega arith, last-within A n h)
+
+-- where the keys are one apart, the vectors are so in the last component, and equal in the others
+pub key-next : (A : ℕ) → 1 ≤ A → A + A + (A + A) < base → (n : ℕ) (v w : Vector) → length v ≡ suc n → length w ≡ suc n → AllWithin A v → AllWithin A w → key w -ℤ key v ≡ pos 1 → minus w v ≡ lastUnit n
+key-next A o h n v w lv lw av aw e =
+    let l : length (minus w v) ≡ suc n = length-plus w (times (negsuc 0) v) (suc n) lw (length-times (negsuc 0) v ∙ lv) in
+    let m : length (lastUnit n) ≡ suc n = length-append (zeros n) (pos 1 ∷ []) ∙ omega (arith, length-replicate n (pos 0)) in
+    key-injective (A + A) h (minus w v) (lastUnit n) (l ∙ sym m) (all-minus A A w v aw av) (last-within (A + A) n (omega arith)) (key-minus w v (lw ∙ sym lv) ∙ e ∙ sym (last-key n))

@@ -9,7 +9,8 @@ use Rattle.nest.specs.Points.{pointsOf}
 use Rattle.nest.proofs.PointLaws.{few-points}
 use Rattle.sources.specs.Keys.{keysOf}
 use Rattle.sources.proofs.Cursors.{keys-front}
-use Rattle.partition.specs.Partition.{stepsOf}
+use Rattle.partition.specs.Partition.{stepsOf, blocksOf}
+use Rattle.mapping.specs.Mapping.{processorsOf}
 use Rattle.planner.proofs.Bridge.{placed-room, placed-below, placed-processors, placed-messages, loop-values, answer-is}
 use Rattle.planner.proofs.make.Statement.{statement}
 use Rattle.planner.proofs.make.Tie as tie
@@ -54,7 +55,10 @@ steps-into-requires c κs =
     (d .pre .0, front k .1, omega (arith, d .pre .1, d .pre .2))
 
 place-blocks-requires : tie.Need-place-blocks-requires
-place-blocks-requires c κs = search needs
+place-blocks-requires c κs =
+    let k = at-keys (c .before .before .before .before) in
+    let d = st k in
+    (d .pre .0, front k .1, omega (arith, d .pre .1, d .pre .3), omega (arith, d .pre .1, d .pre .4))
 
 processor-count-requires : tie.Need-processor-count-requires
 processor-count-requires c κs =
@@ -62,7 +66,7 @@ processor-count-requires c κs =
     let b = t .place-blocks in
     let d = st (at-keys (at-steps t)) in
     let a = d .args in
-    let old = drop (a .n) (a .processors .now) in
+    let old = drop (length (pointsOf (a .s))) (a .processors .now) in
     (placed-room (a .s) old (a .n) (d .pre .1) (b .last .1 .1 .1 .0) (b .ensures .1 .1), placed-below (a .s) old (a .n) (d .pre .1) (b .last .1 .1 .1 .0) (b .ensures .1 .1) (d .pre .0))
 
 message-count-requires : tie.Need-message-count-requires
@@ -72,7 +76,7 @@ message-count-requires c κs =
     let k = at-keys (at-steps t) in
     let d = st k in
     let a = d .args in
-    (d .pre .0, front k .1, omega (arith, d .pre .1, placed-room (a .s) (drop (a .n) (a .processors .now)) (a .n) (d .pre .1) (b .last .1 .1 .1 .0) (b .ensures .1 .1)))
+    (d .pre .0, front k .1, omega (arith, d .pre .1, placed-room (a .s) (drop (length (pointsOf (a .s))) (a .processors .now)) (a .n) (d .pre .1) (b .last .1 .1 .1 .0) (b .ensures .1 .1)))
 
 fill-by-keys-requires : tie.Need-fill-by-keys-requires
 fill-by-keys-requires c κs =
@@ -103,10 +107,13 @@ returns c =
     let d = st (at-keys (at-steps (at-blocks e))) in
     let a = d .args in
     let s = a .s in
-    let old = drop (a .n) (a .processors .now) in
+    let old = drop (length (pointsOf (a .s))) (a .processors .now) in
     let ps = b .last .1 .1 .1 .0 in (
       answer-is s (a .n) (t .result) (b .result) (p .result) (m .result) (d .pre .1) (t .ensures .0) (b .ensures .0) (p .ensures ∙ placed-processors s old (a .n) (d .pre .1) ps (b .ensures .1 .1)) (m .ensures ∙ placed-messages s old (length (pointsOf s)) refl ps (b .ensures .1 .1)),
-      (t .ensures .1 ∙ ap (λ n. stepsOf s ++ drop n (a .steps .now)) (sym (d .pre .1)), (b .ensures .1 .0, (b .ensures .1 .1, f .ensures ∙ loop-values s (a .values .now) (a .n) (d .pre .1)))),
+      (
+        t .ensures .1 ∙ ap (λ n. stepsOf s ++ drop n (a .steps .now)) (sym (d .pre .1)),
+        (b .ensures .1 .0 ∙ ap (λ n. blocksOf s ++ drop n (a .blocks .now)) (sym (d .pre .1)), (b .ensures .1 .1 ∙ ap (λ n. processorsOf s ++ drop n (a .processors .now)) (sym (d .pre .1)), f .ensures ∙ loop-values s (a .values .now) (a .n) (d .pre .1))),
+      ),
     )
 
 pub make-spec : {M : Type 1} → statement M

@@ -11,7 +11,7 @@ use mir.Val.{toZ}
 use Rattle.integers.specs.Bounds.{told}
 use Rattle.integers.specs.Machine.{reads}
 use Rattle.partition.specs.KeySteps.{productAt}
-use Rattle.partition.proofs.Filled.{filled-length}
+use Rattle.numbering.proofs.Filled.{filled-length}
 use Rattle.partition.proofs.StepLaws.{Measured, measured-start, measured-more, measured-end}
 use Rattle.partition.proofs.schedule.products_into.Statement.{statement}
 use Rattle.partition.proofs.schedule.products_into.Tie as tie

@@ -19,7 +19,7 @@ use Rattle.integers.specs.Solver.{var, _⊖_}
 use Rattle.nest.specs.Nest.{toℕ}
 use Rattle.nest.proofs.Counted.{size-is}
 use Rattle.partition.specs.KeySteps.{maxProduct, stepFrom}
-use Rattle.partition.proofs.Filled.{filled-length}
+use Rattle.numbering.proofs.Filled.{filled-length}
 use Rattle.partition.proofs.StepLaws.{least-of, Stepped, stepped-start, stepped-more}
 use Rattle.partition.proofs.schedule.steps_from.Statement.{statement}
 use Rattle.partition.proofs.schedule.steps_from.Tie as tie
