@@ -50,8 +50,12 @@ module _ (steps processors done : List ℕ) (n p : ℕ) where
     kept-done h = kept (rw (ne-eqb (getD done k 0) 0 h) refl)
 
     -- it is on another processor
-    pub kept-elsewhere : getD done k 0 ≡ 0 → getD processors k 0 ≢ p → Better best
-    kept-elsewhere h g = kept (rw (eq-eqb (getD done k 0) 0 h, ne-eqb (getD processors k 0) p g) refl)
+    pub kept-elsewhere : getD processors k 0 ≢ p → Better best
+    kept-elsewhere g = kept (rw (ne-eqb (getD processors k 0) p g) (by (not (seen .done k))))
+      where
+        by : (b : Bool) → (b && false) ≡ false
+        by true = refl
+        by false = refl
 
     -- it waits
     waiting : getD done k 0 ≡ 0 → getD processors k 0 ≡ p → waits seen p k ≡ true

@@ -51,10 +51,10 @@ fn better_of(
     requires { ⌜ (k < n) × (best ≤ n) × (n ≤ length (now steps)) × (n ≤ length (now processors)) × (n ≤ length (now done)) ⌝ }
     ensures { λ r. ⌜ ((o : Option ℕ) → best ≡ rankOr n o → ((j : ℕ) → o ≡ some j → j < n) → r ≡ rankOr n (better (stepIn (viewIn (now (steps .entry)) (now (processors .entry)) (now (done .entry)) [])) k (waits (viewIn (now (steps .entry)) (now (processors .entry)) (now (done .entry)) []) p k) o)) ⌝ }
 {
-    if done[k] != 0 {
+    if processors[k] != p {
         return best;
     }
-    if processors[k] != p {
+    if done[k] != 0 {
         return best;
     }
     if best == n {
