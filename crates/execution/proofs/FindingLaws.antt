@@ -5,12 +5,14 @@ use mathlib.Core.Bool.{Bool, true, false, not, _&&_}
 use mathlib.Core.List.{List, []}
 use mathlib.Core.Logic.{_≢_}
 use mathlib.Core.Option.{Option, none, some}
-use Prim.Native.Nat.{ℕ, _+_, _≤_, _<_}
+use Prim.Native.Nat.{ℕ, zero, suc, _+_, _-_, _≤_, _<_}
 use native.Mathlib.Omega.{arith}
+use native.Mathlib.Numerals.{add-one}
 use borrow.Author.Tests.{lt-ltb, le-ltb, eq-eqb, ne-eqb}
 use lib.Dec.{eqb, ltb}
 use lib.IntN.{ℤ}
 use lib.ListN.{length, getD}
+use Rattle.integers.specs.Lists.{firstFrom}
 use Rattle.nest.specs.declared.LoopNest.{LoopNest}
 use Rattle.nest.specs.Nest.{part, padded, depthOf, maxDepth}
 use Rattle.nest.specs.Points.{pointsOf, rank, source}
@@ -21,10 +23,35 @@ use Rattle.execution.specs.Rules.{every, better, least, View, stepIn, wa
 use Rattle.execution.specs.Run.{bit}
 use Rattle.execution.specs.Entry.{viewIn, rankOr}
 use Rattle.execution.proofs.Base.{opt, every-refute, better-less, better-not, least-some}
-use Rattle.execution.proofs.BitLaws.{every-more, least-more}
+use Rattle.execution.proofs.BitLaws.{every-more, least-start, least-more}
 use Rattle.execution.proofs.RuleLaws.{there-own, there-other, message-some, not-ready}
 
 -- ---- the iteration that a processor takes
+
+-- nothing is both
+and-none : (b : Bool) → (b && false) ≡ false
+and-none true = refl
+and-none false = refl
+
+-- the first of k and m more that passes a test: k, or the first of those behind it
+first-step : (t : ℕ → Bool) (m k : ℕ) (b : Bool) → t k ≡ b → firstFrom t (suc m) k ≡ elim b as (λ _. ℕ) [ true ↦ k | false ↦ firstFrom t m (suc k) ]
+unfolding firstFrom
+first-step t m k b e = ap (λ z. elim z as (λ _. ℕ) [ true ↦ k | false ↦ firstFrom t m (suc k) ]) e
+
+-- a search upward to n: k passes
+pub first-here : (t : ℕ → Bool) (n k : ℕ) → k < n → t k ≡ true → k ≡ firstFrom t (n - k) k
+first-here t n k h e = let q : n - k ≡ suc (n - (k + 1)) = omega arith in sym (ap (λ m. firstFrom t m k) q ∙ first-step t (n - (k + 1)) k true e)
+
+-- it does not
+pub first-later : (t : ℕ → Bool) (n k : ℕ) → k < n → t k ≡ false → firstFrom t (n - k) k ≡ firstFrom t (n - (k + 1)) (k + 1)
+first-later t n k h e =
+    let q : n - k ≡ suc (n - (k + 1)) = omega arith in
+    ap (λ m. firstFrom t m k) q ∙ first-step t (n - (k + 1)) k false e ∙ ap (firstFrom t (n - (k + 1))) (sym (add-one k))
+
+-- or there is no k
+pub first-none : (t : ℕ → Bool) (n k : ℕ) → k ≤ n → n ≤ k → n ≡ firstFrom t (n - k) k
+unfolding firstFrom
+first-none t n k h g = let q : n - k ≡ 0 = omega arith in let z : n ≡ k = omega arith in z ∙ sym (ap (λ m. firstFrom t m k) q)
 
 module _ (steps processors done : List ℕ) (n p : ℕ) where
   -- what the search sees
@@ -51,11 +78,7 @@ module _ (steps processors done : List ℕ) (n p : ℕ) where
 
     -- it is on another processor
     pub kept-elsewhere : getD processors k 0 ≢ p → Better best
-    kept-elsewhere g = kept (rw (ne-eqb (getD processors k 0) p g) (by (not (seen .done k))))
-      where
-        by : (b : Bool) → (b && false) ≡ false
-        by true = refl
-        by false = refl
+    kept-elsewhere g = kept (rw (ne-eqb (getD processors k 0) p g) (and-none (not (seen .done k))))
 
     -- it waits
     waiting : getD done k 0 ≡ 0 → getD processors k 0 ≡ p → waits seen p k ≡ true
@@ -93,6 +116,26 @@ module _ (steps processors done : List ℕ) (n p : ℕ) where
   rank-most : (k : ℕ) → k ≤ n → rankOr n (takenOf k) ≤ n
   rank-most k h = opt (takenOf k) (λ e. rw e (omega arith)) (λ j e. rw e (omega (arith, taken-below k j e)))
 
+  -- k is on the processor
+  abbrev pub here : ℕ → Bool
+  here k = eqb (getD processors k 0) p
+
+  -- one that is elsewhere changes nothing
+  taken-elsewhere : (k : ℕ) → here k ≡ false → takenOf (suc k) ≡ takenOf k
+  unfolding least better
+  taken-elsewhere k h = rw (h, and-none (not (seen .done k))) refl
+
+  -- nor do those before the next one that is here
+  pub skipped : (m k : ℕ) → (k ≤ firstFrom here m k) × (firstFrom here m k ≤ k + m) × (takenOf (firstFrom here m k) ≡ takenOf k)
+  unfolding firstFrom
+  skipped zero k = (omega arith, omega arith, refl)
+  skipped (suc m) k = go (here k) refl (skipped m (suc k))
+    where
+      go : (b : Bool) → here k ≡ b → (suc k ≤ firstFrom here m (suc k)) × (firstFrom here m (suc k) ≤ suc k + m) × (takenOf (firstFrom here m (suc k)) ≡ takenOf (suc k))
+          → let r = elim b as (λ _. ℕ) [ true ↦ k | false ↦ firstFrom here m (suc k) ] in (k ≤ r) × (r ≤ k + suc m) × (takenOf r ≡ takenOf k)
+      go true e h = (omega arith, omega arith, refl)
+      go false e h = (omega (arith, h .0), omega (arith, h .1), h .2 ∙ taken-elsewhere k e)
+
   -- the search's invariant: the best of the first k
   abbrev pub Found : ℕ → ℕ → Type 0
   Found best k = (k ≤ n) × (best ≤ n) × (best ≡ rankOr n (takenOf k))
@@ -103,6 +146,21 @@ module _ (steps processors done : List ℕ) (n p : ℕ) where
       let q : r ≡ rankOr n (takenOf (k + 1)) = b (takenOf k) e (λ j g. let l = taken-below k j g in omega arith) ∙ ap (rankOr n) (sym (least-more (waits seen p) (stepIn seen) k)) in
       let m = rank-most (k + 1) (omega arith) in
       (omega arith, omega arith, q)
+
+  -- on to the next one that is here
+  pub found-skip : (k best r : ℕ) → Found best k → r ≡ firstFrom here (n - k) k → Found best r
+  found-skip k best r f q =
+      let s = skipped (n - k) k in
+      let l = f .0 in
+      (let h : r ≤ n = omega (arith, s .1) in h, f .1, f .2 ∙ ap (rankOr n) (sym (s .2)) ∙ ap (λ z. rankOr n (takenOf z)) (sym q))
+
+  -- from none of them
+  pub found-start : (r : ℕ) → r ≡ firstFrom here (n - 0) 0 → Found n r
+  found-start r q = found-skip 0 n r (omega arith, omega arith, sym (ap (rankOr n) (least-start _ _))) q
+
+  -- the search goes up
+  pub goes-up : (k r : ℕ) → r ≡ firstFrom here (n - k) k → k ≤ r
+  goes-up k r q = let l = skipped (n - k) k .0 in omega arith
 
   -- all of them
   pub found-end : (k best : ℕ) → k ≤ n → n ≤ k → best ≡ rankOr n (takenOf k) → best ≡ rankOr n (takenOf n)

@@ -4,8 +4,10 @@ ghost use mathlib.Core.Path.{_≡_};
 ghost use mathlib.Core.Bool.{false};
 ghost use mathlib.Core.List.{[]};
 ghost use mathlib.Core.Option.{Option, some};
-ghost use Prim.Native.Nat.{ℕ, _+_, _^_, _<_, _≤_};
+ghost use Prim.Native.Nat.{ℕ, _+_, _-_, _^_, _<_, _≤_};
+ghost use lib.Dec.{eqb};
 ghost use lib.ListN.{length, getD};
+ghost use Rattle.integers.specs.Lists.{firstFrom};
 ghost use Rattle.nest.specs.Nest.{countOf, padded, maxDepth, maxDependences};
 ghost use Rattle.nest.specs.Points.{pointsOf};
 ghost use Rattle.nest.specs.Refusals.{refusal};
@@ -63,14 +65,29 @@ fn better_of(
     if steps[k] < steps[best] { k } else { best }
 }
 
+// The first iteration on processor p, of those from `from` up to n; n where there is none.
+fn next_on(processors: &[u8], n: usize, p: u8, from: usize) -> usize
+    requires { ⌜ (from ≤ n) × (n ≤ length (now processors)) ⌝ }
+    ensures { λ r. ⌜ r ≡ firstFrom (λ j. eqb (getD (now (processors .entry)) j 0) p) (n - from) from ⌝ }
+{
+    for j in from..n {
+        if processors[j] == p {
+            return j;
+        }
+    }
+    n
+}
+
 // The iteration that processor p takes, of n: the one that is not done, least in step, then in rank; n where there is none.
 pub fn next_iteration(steps: &[u32], processors: &[u8], done: &[u8], n: usize, p: u8) -> usize
     requires { ⌜ (n ≤ length (now steps)) × (n ≤ length (now processors)) × (n ≤ length (now done)) ⌝ }
     ensures { λ r. ⌜ r ≡ rankOr n (least (waits (viewIn (now (steps .entry)) (now (processors .entry)) (now (done .entry)) []) p) (stepIn (viewIn (now (steps .entry)) (now (processors .entry)) (now (done .entry)) [])) n) ⌝ }
 {
     let mut best = n;
-    for k in 0..n {
+    let mut k = next_on(processors, n, p, 0);
+    while k < n {
         best = better_of(steps, processors, done, n, p, k, best);
+        k = next_on(processors, n, p, k + 1);
     }
     best
 }
