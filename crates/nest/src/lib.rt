@@ -518,24 +518,27 @@ pub fn inspect(s: LoopNest) -> Inspection
     }
 }
 
-// The index point of a rank, of n loops whose limits are not crossed, with 0 in the places behind the depth.
+// The index point of a rank, of n loops whose limits are not crossed, with 0 in the places behind the depth. From the innermost loop outward, each index is what the
+// extent of its loop leaves of the rank; the outermost is what is left.
 fn point_within(
     lower: [i64; LoopNest::MAX_DEPTH],
     upper: [i64; LoopNest::MAX_DEPTH],
     n: usize,
     rank: u64,
 ) -> [i64; LoopNest::MAX_DEPTH]
-    requires { ⌜ (n ≤ maxDepth) × (any crossed (tab (limitAt lower upper) n) ≡ false) × (rank < pointCount (tab (limitAt lower upper) n)) ⌝ }
+    requires { ⌜ (1 ≤ n) × (n ≤ maxDepth) × (any crossed (tab (limitAt lower upper) n) ≡ false) × (rank < pointCount (tab (limitAt lower upper) n)) ⌝ }
     ensures { λ r. ⌜ r ≡ padded maxDepth (getD (points (tab (limitAt lower upper) n)) rank []) ⌝ }
 {
     let mut point = [0i64; LoopNest::MAX_DEPTH];
-    let mut inner = point_count(lower, upper, n);
     let mut rest = rank;
-    for k in 0..n {
-        inner = inner / extent_of(lower[k], upper[k]);
-        point[k] = index_at(lower[k], rest / inner);
-        rest = rest % inner;
+    let mut k = n;
+    while 1 < k {
+        k -= 1;
+        let extent = extent_of(lower[k], upper[k]);
+        point[k] = index_at(lower[k], rest % extent);
+        rest = rest / extent;
     }
+    point[0] = index_at(lower[0], rest);
     point
 }
 
