@@ -13,8 +13,8 @@ ghost use Rattle.nest.specs.Points.{pointsOf};
 ghost use Rattle.nest.specs.Refusals.{refusal, orElse, shortBuffer, noRoom};
 ghost use Rattle.sequential.specs.Sequential.{ruleOf};
 ghost use Rattle.execution.specs.Rules.{compute, deliver, effect};
-ghost use Rattle.execution.specs.Run.{after, moveEffect, moveAnswer, moveAfter};
-ghost use Rattle.execution.specs.Entry.{layoutIn, stateIn, viewIn, moveOf, numberOf, answerOf, Makes};
+ghost use Rattle.execution.specs.Run.{after};
+ghost use Rattle.execution.specs.Entry.{layoutIn, stateIn, viewIn, moveOf, answerOf, Makes};
 
 // waiting: compute, a source is not there
 pub const WAITING: u8 = 15;

@@ -8,7 +8,7 @@ ghost use mathlib.Core.List.{[]};
 ghost use lib.ListN.{length, getD, set};
 ghost use Rattle.integers.specs.Lists.{any, repeats, tab};
 ghost use Rattle.integers.specs.Vector.{dots, eqV};
-ghost use Rattle.nest.specs.Nest.{emptyNest, withComponent, padded, part, toℕ, depthOf, countOf, limitAt, dependenceAt, maxDepth, maxDependences, maxCube, maxLimit, maxIterations, maxComponent, maxBoundary, maxWeight};
+ghost use Rattle.nest.specs.Nest.{emptyNest, withComponent, nestFrom, Sized, padded, part, toℕ, depthOf, countOf, limitAt, dependenceAt, maxDepth, maxDependences, maxCube, maxLimit, maxIterations, maxComponent, maxBoundary, maxWeight};
 ghost use Rattle.nest.specs.Points.{extent, points, pointsOf, pointCount, rank, isPoint, source};
 ghost use Rattle.nest.specs.Refusals.{outside, crossed, outOfSpan, backward, refusal, firstMet, headerOrder, limitOrder, vectorOrder, weightOrder, noRoom, dependence, Checks, Inspects};
 
@@ -217,13 +217,9 @@ fn any_outside(xs: &[i64], from: usize, n: usize, low: i64, high: i64) -> bool
 }
 
 // Whether the limits of one of the n outermost loops are crossed or out of span.
-fn any_crossed(
-    lower: [i64; LoopNest::MAX_DEPTH],
-    upper: [i64; LoopNest::MAX_DEPTH],
-    n: usize,
-) -> bool
-    requires { ⌜ n ≤ maxDepth ⌝ }
-    ensures { λ r. ⌜ r ≡ any crossed (tab (limitAt lower upper) n) ⌝ }
+fn any_crossed(lower: &[i64], upper: &[i64], n: usize) -> bool
+    requires { ⌜ (n ≤ length (now lower)) × (n ≤ length (now upper)) ⌝ }
+    ensures { λ r. ⌜ r ≡ any crossed (tab (limitAt (now (lower .entry)) (now (upper .entry))) n) ⌝ }
 {
     for k in 0..n {
         if is_crossed(lower[k], upper[k]) {
@@ -258,13 +254,9 @@ fn index_at(lower: i64, q: u64) -> i64
 }
 
 // The number of index points of the n outermost loops.
-fn point_count(
-    lower: [i64; LoopNest::MAX_DEPTH],
-    upper: [i64; LoopNest::MAX_DEPTH],
-    n: usize,
-) -> u64
-    requires { ⌜ (n ≤ maxDepth) × (any crossed (tab (limitAt lower upper) n) ≡ false) ⌝ }
-    ensures { λ r. ⌜ r ≡ pointCount (tab (limitAt lower upper) n) ⌝ }
+fn point_count(lower: &[i64], upper: &[i64], n: usize) -> u64
+    requires { ⌜ (n ≤ maxDepth) × (n ≤ length (now lower)) × (n ≤ length (now upper)) × (any crossed (tab (limitAt (now lower) (now upper)) n) ≡ false) ⌝ }
+    ensures { λ r. ⌜ r ≡ pointCount (tab (limitAt (now (lower .entry)) (now (upper .entry))) n) ⌝ }
 {
     let mut total: u64 = 1;
     for k in 0..n {
@@ -391,28 +383,26 @@ fn any_against(time: &[i64], dependences: &[i64], n: usize, m: usize) -> bool
 }
 
 // The first refusal of line 1: 2, 3 or 4, or 0.
-pub fn check_header(s: LoopNest) -> u8
-    ensures { λ r. ⌜ r ≡ firstMet s headerOrder ⌝ }
+pub fn check_header(depth: i64, count: i64, cube: i64) -> u8
+    ensures { λ r. ⌜ r ≡ firstMet (nestFrom depth count cube [] [] [] [] (pos 0) []) headerOrder ⌝ }
 {
-    if is_outside(1, LoopNest::MAX_DEPTH as i64, s.depth) {
+    if is_outside(1, LoopNest::MAX_DEPTH as i64, depth) {
         return BAD_DEPTH;
     }
-    if is_outside(1, LoopNest::MAX_DEPENDENCES as i64, s.count) {
+    if is_outside(1, LoopNest::MAX_DEPENDENCES as i64, count) {
         return BAD_COUNT;
     }
-    if is_outside(0, LoopNest::MAX_CUBE, s.cube) {
+    if is_outside(0, LoopNest::MAX_CUBE, cube) {
         return BAD_CUBE;
     }
     0
 }
 
 // The refusals 5 and 6, of n loops: the number of the first, or 0.
-fn check_limits(s: LoopNest, n: usize) -> u8
-    requires { ⌜ (n ≡ depthOf s) × (n ≤ maxDepth) ⌝ }
-    ensures { λ r. ⌜ r ≡ firstMet s limitOrder ⌝ }
+fn check_limits(lower: &[i64], upper: &[i64], n: usize) -> u8
+    requires { ⌜ (n ≤ maxDepth) × (n ≤ length (now lower)) × (n ≤ length (now upper)) ⌝ }
+    ensures { λ r. ⌜ r ≡ firstMet (nestFrom (pos n) (pos 0) (pos 0) (now (lower .entry)) (now (upper .entry)) [] [] (pos 0) []) limitOrder ⌝ }
 {
-    let lower = s.lower;
-    let upper = s.upper;
     if any_crossed(lower, upper, n) {
         return BAD_LIMITS;
     }
@@ -423,14 +413,12 @@ fn check_limits(s: LoopNest, n: usize) -> u8
 }
 
 // The refusals 7 to 12, of n loops and m dependences: the number of the first, or 0.
-fn check_vectors(s: LoopNest, n: usize, m: usize) -> u8
-    requires { ⌜ (n ≡ depthOf s) × (n ≤ maxDepth) × (m ≡ countOf s) × (m ≤ maxDependences) ⌝ }
-    ensures { λ r. ⌜ r ≡ firstMet s vectorOrder ⌝ }
+fn check_vectors(time: &[i64], dependences: &[i64], n: usize, m: usize) -> u8
+    requires { ⌜ (n ≤ maxDepth) × (n ≤ length (now time)) × (m * maxDepth ≤ length (now dependences)) ⌝ }
+    ensures { λ r. ⌜ r ≡ firstMet (nestFrom (pos n) (pos m) (pos 0) [] [] (now (time .entry)) (now (dependences .entry)) (pos 0) []) vectorOrder ⌝ }
 {
-    let time = s.time;
-    let dependences = s.dependences;
     if any_outside(
-        &time,
+        time,
         0,
         n,
         -LoopNest::MAX_COMPONENT,
@@ -438,58 +426,86 @@ fn check_vectors(s: LoopNest, n: usize, m: usize) -> u8
     ) {
         return BAD_TIME;
     }
-    if any_dependence_outside(&dependences, n, m) {
+    if any_dependence_outside(dependences, n, m) {
         return BAD_DEPENDENCE;
     }
-    if any_backward(&dependences, n, m) {
+    if any_backward(dependences, n, m) {
         return BACKWARD_DEPENDENCE;
     }
-    if any_equal(&dependences, n, m) {
+    if any_equal(dependences, n, m) {
         return EQUAL_DEPENDENCES;
     }
-    if any_against(&time, &dependences, n, m) {
+    if any_against(time, dependences, n, m) {
         return AGAINST_TIME;
     }
-    if inner_product(&time, &time, 0, n) == 0 {
+    if inner_product(time, time, 0, n) == 0 {
         return ZERO_TIME;
     }
     0
 }
 
 // The refusal 13, of m dependences, or 0.
-fn check_weights(s: LoopNest, m: usize) -> u8
-    requires { ⌜ (m ≡ countOf s) × (m ≤ maxDependences) ⌝ }
-    ensures { λ r. ⌜ r ≡ firstMet s weightOrder ⌝ }
+fn check_weights(boundary: i64, weights: &[i64], m: usize) -> u8
+    requires { ⌜ m ≤ length (now weights) ⌝ }
+    ensures { λ r. ⌜ r ≡ firstMet (nestFrom (pos 0) (pos m) (pos 0) [] [] [] [] boundary (now (weights .entry))) weightOrder ⌝ }
 {
-    if is_outside(0, LoopNest::MAX_BOUNDARY, s.boundary) {
+    if is_outside(0, LoopNest::MAX_BOUNDARY, boundary) {
         return BAD_WEIGHT;
     }
-    let weights = s.weights;
-    if any_outside(&weights, 0, m, 0, LoopNest::MAX_WEIGHT) {
+    if any_outside(weights, 0, m, 0, LoopNest::MAX_WEIGHT) {
         return BAD_WEIGHT;
     }
     0
+}
+
+// `check`, of a nest that is lent in its parts.
+pub fn check_parts<'a>(
+    depth: i64,
+    count: i64,
+    cube: i64,
+    lower: &'a [i64],
+    upper: &'a [i64],
+    time: &'a [i64],
+    dependences: &'a [i64],
+    boundary: i64,
+    weights: &'a [i64],
+) -> u8
+    requires { ⌜ Sized (now lower) (now upper) (now time) (now dependences) (now weights) ⌝ }
+    ensures { λ r. ⌜ r ≡ refusal (nestFrom depth count cube (now (lower .entry)) (now (upper .entry)) (now (time .entry)) (now (dependences .entry)) boundary (now (weights .entry))) ⌝ }
+{
+    let header = check_header(depth, count, cube);
+    if header != 0 {
+        return header;
+    }
+    let n = to_size(depth);
+    let m = to_size(count);
+    let limits = check_limits(lower, upper, n);
+    if limits != 0 {
+        return limits;
+    }
+    let vectors = check_vectors(time, dependences, n, m);
+    if vectors != 0 {
+        return vectors;
+    }
+    check_weights(boundary, weights, m)
 }
 
 // The number of the first refusal, 2 to 13 in the document's order, of a nest with any content; 0 where it is accepted.
 pub fn check(s: LoopNest) -> u8
     ensures { λ r. ⌜ Checks s r ⌝ }
 {
-    let header = check_header(s);
-    if header != 0 {
-        return header;
-    }
-    let n = to_size(s.depth);
-    let m = to_size(s.count);
-    let limits = check_limits(s, n);
-    if limits != 0 {
-        return limits;
-    }
-    let vectors = check_vectors(s, n, m);
-    if vectors != 0 {
-        return vectors;
-    }
-    check_weights(s, m)
+    let boundary = s.boundary;
+    check_parts(
+        s.depth,
+        s.count,
+        s.cube,
+        &s.lower,
+        &s.upper,
+        &s.time,
+        &s.dependences,
+        boundary,
+        &s.weights,
+    )
 }
 
 // What is known of a nest: the number of its first refusal, 2 to 13, or 0 with the number of its iterations.
@@ -498,24 +514,61 @@ pub struct Inspection {
     pub iterations: usize,
 }
 
-// `check`, with the number of iterations of an accepted nest; 0 for a refused one.
-pub fn inspect(s: LoopNest) -> Inspection
-    ensures { λ r. ⌜ Inspects s r ⌝ }
+// `inspect`, of a nest that is lent in its parts.
+pub fn inspect_parts<'a>(
+    depth: i64,
+    count: i64,
+    cube: i64,
+    lower: &'a [i64],
+    upper: &'a [i64],
+    time: &'a [i64],
+    dependences: &'a [i64],
+    boundary: i64,
+    weights: &'a [i64],
+) -> Inspection
+    requires { ⌜ Sized (now lower) (now upper) (now time) (now dependences) (now weights) ⌝ }
+    ensures { λ r. ⌜ Inspects (nestFrom depth count cube (now (lower .entry)) (now (upper .entry)) (now (time .entry)) (now (dependences .entry)) boundary (now (weights .entry))) r ⌝ }
 {
-    let refusal = check(s);
+    let refusal = check_parts(
+        depth,
+        count,
+        cube,
+        lower,
+        upper,
+        time,
+        dependences,
+        boundary,
+        weights,
+    );
     if refusal != 0 {
         return Inspection {
             refusal: refusal,
             iterations: 0,
         };
     }
-    let lower = s.lower;
-    let upper = s.upper;
-    let n = to_size(s.depth);
+    let n = to_size(depth);
     Inspection {
         refusal: 0,
         iterations: point_count(lower, upper, n) as usize,
     }
+}
+
+// `check`, with the number of iterations of an accepted nest; 0 for a refused one.
+pub fn inspect(s: LoopNest) -> Inspection
+    ensures { λ r. ⌜ Inspects s r ⌝ }
+{
+    let boundary = s.boundary;
+    inspect_parts(
+        s.depth,
+        s.count,
+        s.cube,
+        &s.lower,
+        &s.upper,
+        &s.time,
+        &s.dependences,
+        boundary,
+        &s.weights,
+    )
 }
 
 // The index point of a rank, of n loops whose limits are not crossed, with 0 in the places behind the depth. From the innermost loop outward, each index is what the
@@ -569,7 +622,7 @@ fn rank_within(
         let high = upper[k];
         let index = point[k];
         if is_outside(low, high, index) {
-            return point_count(lower, upper, n);
+            return point_count(&lower, &upper, n);
         }
         rank = rank * extent_of(low, high) + distance(low, index);
     }

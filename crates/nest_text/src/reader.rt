@@ -91,7 +91,7 @@ pub fn read_header(text: &[u8]) -> Reading
     }
     let row = line.numbers;
     let header = LoopNest::empty().with_shape(row[0], row[1], row[2]);
-    let refusal = nest::check_header(header);
+    let refusal = nest::check_header(header.depth, header.count, header.cube);
     if refusal != 0 {
         return refused(refusal);
     }

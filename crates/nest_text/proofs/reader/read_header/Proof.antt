@@ -1,9 +1,11 @@
 -- `read_header` answers the first refusal of line 1, or its numbers.
-use mathlib.Core.Path.{sym, _∙_}
+use mathlib.Core.Path.{_≡_, sym, _∙_}
 use borrow.Author.Tests.{not-true, not-false}
 use lib.IntN.{pos}
 use lib.ListN.{getD}
 use Rattle.integers.specs.Bounds.{told}
+use Rattle.nest.specs.Refusals.{firstMet, headerOrder}
+use Rattle.nest.proofs.Parts.{header-parts}
 use Rattle.nest_text.proofs.ReadLaws.{Headed, line-refused, header-read}
 use borrow.Author.Needs.{needs}
 use Rattle.nest_text.proofs.reader.read_header.Statement.{statement}
@@ -54,17 +56,25 @@ made c =
     header-read (d .before .before .args .text .now) (d .read-line .result) (d .read-line .ensures) (not-false (d .read-line .result .ok) (f .before .before .if1 .left))
     (f .empty .result) (c .with-shape .result) (f .empty .ensures .0) (rw (x, y, z) at (c .with-shape .ensures))
 
+-- what the check of it says
+checked : (c : tie.After-check-header) → c .check-header .result ≡ firstMet (c .before .before .before .before .with-shape .result) headerOrder
+checked c =
+    let d = c .before .before .before in
+    let s = d .before .with-shape .result in
+    let x = told (s .depth) (d .struct-told .given .0 .1) in
+    let y = told (s .count) (c .before .before .struct-told2 .given .1 .0 .1) in
+    let z = told (s .cube) (c .before .struct-told3 .given .1 .1 .0 .1) in
+    (rw (x, y, z) at (c .check-header .ensures)) ∙ header-parts s
+
 returns-2 : tie.Need-returns-2
 returns-2 c =
     let e = c .before .before in
-    let k = e .check-header in
-    c .refused2 .ensures ∙ made (e .before) .refused-with (k .result) (k .ensures) (c .before .if2 .taken)
+    c .refused2 .ensures ∙ made (e .before .before .before .before) .refused-with (e .check-header .result) (checked e) (c .before .if2 .taken)
 
 returns-3 : tie.Need-returns-3
 returns-3 c =
     let e = c .before in
-    let k = e .check-header in
-    made (e .before) .accepted (sym (k .ensures) ∙ c .if2 .left)
+    made (e .before .before .before .before) .accepted (sym (checked e) ∙ c .if2 .left)
 
 pub read-header-spec : {M : Type 1} → statement M
 read-header-spec =
