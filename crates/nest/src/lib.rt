@@ -680,6 +680,43 @@ pub fn source_at(s: LoopNest, point: [i64; LoopNest::MAX_DEPTH], i: usize) -> us
     rank_of(s, source)
 }
 
+// The rank of the source of an iteration along dependence i, of n loops that have so many index points in all; their number where the source is none of them. From the
+// innermost loop outward, each index is what the extent of its loop leaves of the iteration's rank.
+pub fn source_rank(
+    lower: &[i64],
+    upper: &[i64],
+    dependences: &[i64],
+    n: usize,
+    total: usize,
+    iteration: usize,
+    i: usize,
+) -> usize
+    requires { ⌜ (n ≤ maxDepth) × (n ≤ length (now lower)) × (n ≤ length (now upper)) × (i * maxDepth + n ≤ length (now dependences)) ⌝ }
+    requires { ⌜ (any crossed (tab (limitAt (now lower) (now upper)) n) ≡ false) × (total ≡ pointCount (tab (limitAt (now lower) (now upper)) n)) × (total ≤ maxIterations) × (iteration < total) ⌝ }
+    requires { ⌜ ((k : ℕ) → k < n → natAbs (getD (now dependences) (i * maxDepth + k) (pos 0)) ≤ maxComponent) ⌝ }
+    ensures { λ r. ⌜ r ≡ rank (points (tab (limitAt (now (lower .entry)) (now (upper .entry))) n))
+        (source (getD (points (tab (limitAt (now (lower .entry)) (now (upper .entry))) n)) iteration []) (dependenceAt (now (dependences .entry)) n i)) ⌝ }
+{
+    let mut rest = iteration as u64;
+    let mut stride: u64 = 1;
+    let mut at: u64 = 0;
+    let mut k = n;
+    while 0 < k {
+        k -= 1;
+        let low = lower[k];
+        let high = upper[k];
+        let extent = extent_of(low, high);
+        let index = index_at(low, rest % extent) - dependences[i * LoopNest::MAX_DEPTH + k];
+        if is_outside(low, high, index) {
+            return total;
+        }
+        at = at + distance(low, index) * stride;
+        stride = stride * extent;
+        rest = rest / extent;
+    }
+    at as usize
+}
+
 // 14 if one of four lent tables has fewer than n entries, 0 otherwise.
 pub fn check_room(n: usize, first: usize, second: usize, third: usize, fourth: usize) -> u8
     ensures { λ r. ⌜ r ≡ noRoom n first second third fourth ⌝ }
