@@ -1,5 +1,6 @@
-//! Times the proved planner beside a plain one, in one run, on nests on which both give the same tables.
+//! Times the proved planner beside a plain one, in one run, on nests on which both give the same tables. `check` ends with status 1 where a goal is missed.
 
+mod goals;
 mod machine;
 mod nest;
 mod plain;
@@ -9,6 +10,7 @@ mod runs;
 use std::hint::black_box;
 use std::time::Instant;
 
+use goals::Reached;
 use nest::{Nest, Tables};
 use plain::Lookup;
 
@@ -20,6 +22,12 @@ fn l1(side: i64) -> Nest {
 /// L2 of document 000.
 fn l2(extents: &[i64; 3]) -> Nest {
     nest::with_extents(extents, &[1, 1, 1], &[&[0, 1, 0], &[1, 0, 0], &[0, 0, 1]], 6)
+}
+
+/// L2 with eight dependences.
+fn l2_with_eight(extents: &[i64; 3]) -> Nest {
+    let units: [&[i64]; 8] = [&[0, 1, 0], &[1, 0, 0], &[0, 0, 1], &[1, 1, 0], &[1, 0, 1], &[0, 1, 1], &[1, 1, 1], &[1, 1, -1]];
+    nest::with_extents(extents, &[1, 1, 1], &units, 6)
 }
 
 /// A nest whose chosen projections span a coarse lattice, so that few iterations share a class: at 16 x 16 x 16 it has 4035 classes.
@@ -132,19 +140,27 @@ fn times(nest: &Nest, rounds: usize) -> (usize, Vec<f64>) {
     (tables[0].counts[0], least)
 }
 
+/// The nests that are timed, with how often each is.
+fn nests(scale: usize) -> Vec<(&'static str, Nest, usize)> {
+    vec![
+        ("L1, 64 x 64", l1(64), 40 * scale),
+        ("L2, 16 x 16 x 16", l2(&[16, 16, 16]), 40 * scale),
+        ("L2, 8 dependences", l2_with_eight(&[16, 16, 16]), 20 * scale),
+        ("512 x 8 x 1", l2(&[512, 8, 1]), 20 * scale),
+        ("L1, 16 x 16", l1(16), 200 * scale),
+        ("L2, 4 x 8 x 8", l2(&[4, 8, 8]), 200 * scale),
+        ("4035 classes, 16 x 16 x 16", many_classes(&[16, 16, 16]), 2 * scale),
+    ]
+}
+
 /// The times of `plan` and `fill` beside the plain ones, a line a nest.
-fn report_nests(scale: usize) {
+fn report_nests(scale: usize, reached: &mut Reached) {
     println!("least times in microseconds; 'search' and 'hash' say how the plain planner finds classes\n");
     println!(
         "{:<26} {:>9} {:>9} {:>9} {:>7} {:>7} {:>9} {:>9} {:>7}",
         "nest", "plan", "search", "hash", "ratio", "ratio", "fill", "plain", "ratio"
     );
-    let lines = [
-        ("L1, 64 x 64", l1(64), 20 * scale),
-        ("L2, 16 x 16 x 16", l2(&[16, 16, 16]), 20 * scale),
-        ("4035 classes, 16 x 16 x 16", many_classes(&[16, 16, 16]), 2 * scale),
-    ];
-    for (name, nest, rounds) in &lines {
+    for (name, nest, rounds) in &nests(scale) {
         let (_, t) = times(nest, *rounds);
         println!(
             "{name:<26} {:>9.1} {:>9.1} {:>9.1} {:>7.2} {:>7.2} {:>9.1} {:>9.1} {:>7.2}",
@@ -157,6 +173,8 @@ fn report_nests(scale: usize) {
             t[4] / 1e3,
             t[3] / t[4]
         );
+        reached.add("plan", name, t[0] / t[1].min(t[2]));
+        reached.add("fill", name, t[3] / t[4]);
     }
 }
 
@@ -179,11 +197,16 @@ fn report_sizes(scale: usize) {
 }
 
 fn main() {
-    let quick = std::env::args().nth(1).as_deref() == Some("quick");
-    let scale = if quick { 1 } else { 10 };
+    let word = std::env::args().nth(1);
+    let scale = if word.as_deref() == Some("quick") { 1 } else { 10 };
     let (nests, accepted) = compare(1000);
     println!("equal tables and counts on {nests} nests, {accepted} of them accepted\n");
-    report_nests(scale);
+    let mut reached = Reached::new();
+    report_nests(scale, &mut reached);
     report_sizes(scale);
-    runs::report("L1, 64 x 64", &l1(64), 2 * scale);
+    runs::report("L1, 64 x 64", &l1(64), 2 * scale, &mut reached);
+    let missed = reached.report();
+    if word.as_deref() == Some("check") && missed > 0 {
+        std::process::exit(1);
+    }
 }

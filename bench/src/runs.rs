@@ -3,6 +3,7 @@
 use std::hint::black_box;
 use std::time::Instant;
 
+use crate::goals::Reached;
 use crate::machine::Machine;
 use crate::nest::{Answer, Move, Nest, State, Tables};
 use crate::proved;
@@ -90,7 +91,7 @@ impl Times {
 }
 
 /// Times complete runs of a nest by the proved entry and by the plain machine in turn, and prints what they cost.
-pub fn report(name: &str, nest: &Nest, rounds: usize) {
+pub fn report(name: &str, nest: &Nest, rounds: usize, reached: &mut Reached) {
     let mut tables = Tables::new([4096; 4]);
     assert_eq!(proved::plan(nest, &mut tables), 0, "{name} is accepted");
     let machine = Machine::new(nest).expect("an accepted nest");
@@ -109,6 +110,8 @@ pub fn report(name: &str, nest: &Nest, rounds: usize) {
     }
     println!("\na complete run of {name} on {} processors by moves", tables.counts[3]);
     print(&schedule, &ours, &theirs);
+    reached.add("run", name, ours.0[0] / theirs.0[0]);
+    reached.add("delivery", name, ours.0[2] / theirs.0[2]);
 }
 
 fn print(schedule: &Schedule, ours: &Times, theirs: &Times) {

@@ -1,16 +1,15 @@
 -- The first iterations of the projection lines stand for all iterations: whatever is the same along a line, the first of each class are found among them.
 -- Assumes nothing.
 use mathlib.Core.Path.{_≡_, refl, sym, ap, ap₂, subst, _∙_}
-use mathlib.Core.Bool.{Bool, true, false}
-use mathlib.Core.Logic.{_⊎_, inl, inr, ⊎-elim}
+use mathlib.Core.Bool.{Bool, true}
+use mathlib.Core.Logic.{_⊎_, ⊎-elim}
 use mathlib.Core.List.{List, [], _∷_, _++_, map, List·Memᴰ}
 use Prim.Native.Nat.{ℕ, zero, suc, _+_, _<_, _≤_}
 use native.Mathlib.Nat.{eq-or-lt-of-le, le-of-suc-le-suc, not-suc-le-zero}
 use native.Mathlib.Omega.{arith}
-use borrow.Author.Tests.{ltb-true, ltb-false, lt-ltb, le-ltb}
-use lib.Dec.{ltb}
+use borrow.Author.Tests.{lt-ltb, le-ltb}
 use lib.ListN.{length, getD, List·getD-eq-default}
-use Rattle.integers.specs.Lists.{tab, place, firsts, place-below, getD-tab, length-tab, true-T, T-true, split, below-or-not}
+use Rattle.integers.specs.Lists.{tab, place, firsts, place-below, getD-tab, length-tab, true-T, T-true, below-or-not}
 use Rattle.integers.proofs.ListFacts.{length-snoc, getD-snoc, getD-before, getD-default, map-snoc, firsts-cover, getD-mem}
 use Rattle.numbering.proofs.Numbering.{firsts-seen, firsts-new}
 use Rattle.partition.specs.Heads.{headsTo, linesTo}

@@ -1,5 +1,5 @@
 -- The tables of groups and of numbers over some points: what they say of the points' groups, and of the blocks that these make. Assumes nothing.
-use mathlib.Core.Path.{_≡_, sym, ap, subst, subst₂, _∙_}
+use mathlib.Core.Path.{_≡_, sym, ap, subst₂, _∙_}
 use mathlib.Core.List.{List, [], _++_, map}
 use Prim.Native.Nat.{ℕ, _<_}
 use native.Mathlib.Omega.{arith}
@@ -12,7 +12,7 @@ use Rattle.grouping.specs.Grouping.{Frame, Group, group, seeds, blocks, blockNu
 use Rattle.grouping.specs.Basis.{Grouped}
 use Rattle.numbering.specs.Tables.{row, rows}
 use Rattle.numbering.proofs.Rows.{getD-rows, length-rows}
-use Rattle.classes.proofs.KeyNumbers.{block-numbers, block-count, block-rows}
+use Rattle.classes.proofs.RowNumbers.{block-numbers, block-count, block-rows}
 use Rattle.partition.specs.Partition.{noGroup}
 use Rattle.partition.specs.GroupRows.{GroupRow, groupsOn, GroupTable}
 
@@ -49,7 +49,7 @@ module _ (F : Frame) (count : ℕ) (t : List ℤ) (n : ℕ) (ps : List Vector) (
   -- a row is its group
   row-same : (j : ℕ) → j < n → GroupRow count (group F (seeds F (rows t n)) (row t j)) (row K j)
   unfolding group
-  row-same j l = let k = G .keyed j l in record { class-is = k .class-is; along-is = k .along-is; fill = k .fill; within = G .within j l }
+  row-same j l = let k = G .grouped j l in record { class-is = k .class-is; along-is = k .along-is; fill = k .fill; within = G .within j l }
 
   -- the different rows, gathered, are the groups of the blocks
   pub gathered : (U : List ℤ) → rows U (length (firsts eqV (rows K n))) ≡ firsts eqV (rows K n) → GroupTable count (blocks gs) U

@@ -3,10 +3,9 @@ use mathlib.Core.Path.{_≡_, refl, sym, ap, ap₂, subst, _∙_}
 use mathlib.Core.Logic.{⊎-elim}
 use mathlib.Core.List.{List, [], _∷_, _++_}
 use Prim.Native.Nat.{ℕ, suc, _+_, _<_, _≤_}
-use native.Mathlib.Nat.{lt-irrefl}
 use native.Mathlib.Numerals.{add-one}
 use native.Mathlib.Omega.{arith}
-use lib.ListN.{length, getD, set, take, drop, length-append, length-drop, length-set}
+use lib.ListN.{length, getD, set, take, drop, length-append, length-drop}
 use Rattle.integers.specs.Lists.{below-or-not}
 use Rattle.integers.proofs.ListFacts.{getD-before, length-snoc}
 use Rattle.numbering.proofs.Numbering.{stored, take-set, take-set-same}

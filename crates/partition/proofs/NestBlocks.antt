@@ -1,10 +1,9 @@
 -- The blocks of an accepted nest from the tables that are made for its projection lines. Assumes nothing.
 use mathlib.Core.Path.{_≡_, refl, sym, ap, ap₂, subst, _∙_}
 use mathlib.Core.List.{List, [], _∷_, _++_, map}
-use Prim.Native.Nat.{ℕ, zero, suc, _<_, _≤_}
-use native.Mathlib.Nat.{not-suc-le-zero}
+use Prim.Native.Nat.{ℕ, suc, _<_, _≤_}
 use native.Mathlib.Omega.{arith}
-use lib.IntN.{ℤ, pos, natAbs}
+use lib.IntN.{ℤ, pos}
 use lib.ListN.{length, getD, take, drop}
 use lib.Seq.{getD-take, drop-at}
 use Rattle.integers.specs.Lists.{tab, tab-same}
@@ -20,7 +19,7 @@ use Rattle.sources.proofs.NestKeys.{point-within, digits-point}
 use Rattle.grouping.specs.Basis.{pick, Framed, basisFrame}
 use Rattle.grouping.specs.Grouping.{Frame, Group, chosenVectors, blocks, blockNumber}
 use Rattle.grouping.specs.Projection.{groupSize}
-use Rattle.partition.specs.GroupRows.{GroupRow, groupsOn, GroupTable}
+use Rattle.partition.specs.GroupRows.{groupsOn, GroupTable}
 use Rattle.partition.specs.Heads.{headsTo, linesTo, pointsBy, PointAt}
 use Rattle.partition.specs.Lines.{Apart}
 use Rattle.partition.specs.Partition.{noGroup, blocksOf, blockCount, blockGroups, chosenOf}

@@ -1,20 +1,19 @@
 -- The projection lines of an accepted nest: an iteration's source along the shortest vector is on the same line, and can be searched for by keys.
 -- Assumes nothing.
-use mathlib.Core.Path.{_≡_, refl, sym, ap, ap₂, subst, _∙_}
-use mathlib.Core.Bool.{true}
+use mathlib.Core.Path.{_≡_, sym, ap, ap₂, subst, _∙_}
 use mathlib.Core.Logic.{_⊎_, inl, inr, ⊎-elim}
 use mathlib.Core.List.{[], _∷_}
 use Prim.Native.Nat.{ℕ, _+_, _-_, _<_, _≤_}
 use native.Mathlib.Omega.{arith}
-use lib.IntN.{ℤ, pos, natAbs, _-ℤ_, _*ℤ_}
+use lib.IntN.{ℤ, pos, natAbs, _-ℤ_}
 use lib.ListN.{length, getD, List·getD-eq-default}
 use lib.Signed.{_≤ℤ_, _<ℤ_}
 use Rattle.integers.specs.Linear.{ints, dif, sizes}
-use Rattle.integers.specs.Lists.{below-or-not, getD-tab, length-tab}
+use Rattle.integers.specs.Lists.{below-or-not}
 use Rattle.integers.specs.Order.{decide}
 use Rattle.integers.specs.Ring.{zero-factor}
 use Rattle.integers.specs.Solver.{var, _⊗_, ring}
-use Rattle.integers.specs.Vector.{Vector, AllWithin, times, minus, zeros, eqZ, eqZ-true, all-wider, all-each, all-minus, length-times, getD-times, getD-within}
+use Rattle.integers.specs.Vector.{Vector, AllWithin, minus, zeros, eqZ, eqZ-true, all-wider, all-each, all-minus, length-times, getD-times, getD-within}
 use Rattle.integers.proofs.ListFacts.{place-true, getD-map}
 use Rattle.nest.specs.declared.LoopNest.{LoopNest}
 use Rattle.nest.specs.Nest.{part, padded, depthOf, timeOf, maxLimit, maxComponent}
@@ -23,15 +22,15 @@ use Rattle.nest.specs.Refusals.{refusal}
 use Rattle.nest.proofs.Padding.{at-padded, length-padded}
 use Rattle.nest.proofs.PointLaws.{point-length}
 use Rattle.nest.proofs.Words.{part-length}
-use Rattle.sources.specs.Keys.{base, key, keysOf, sourceIn, Searchable}
+use Rattle.sources.specs.Keys.{key, keysOf, sourceIn, Searchable}
 use Rattle.sources.proofs.Cursors.{key-most, keys-most, keys-length}
 use Rattle.sources.proofs.KeyOrder.{key-minus, key-injective}
 use Rattle.sources.proofs.NestKeys.{point-within, nest-keys-increase}
 use Rattle.grouping.specs.Projection.{projection}
-use Rattle.grouping.proofs.Padded.{pad, minus-pad}
+use Rattle.grouping.proofs.Padded.{minus-pad}
 use Rattle.grouping.proofs.Vectors.{comp, same-components, length-minus}
 use Rattle.classes.proofs.Lined.{one-line}
-use Rattle.partition.specs.Lines.{Shortest, Apart}
+use Rattle.partition.specs.Lines.{Apart}
 use Rattle.partition.proofs.LineLaws.{shortest-along}
 use Rattle.partition.proofs.NestVectors.{depth-few, padded-is, part-at}
 use Rattle.partition.proofs.Nests.{time-length}

@@ -9,7 +9,7 @@ use lib.ListN.{length, getD, take, drop, length-append}
 use Rattle.integers.specs.Lists.{tab, count, firsts}
 use Rattle.integers.specs.Vector.{Vector, getD-within}
 use Rattle.nest.specs.declared.LoopNest.{LoopNest}
-use Rattle.nest.specs.Nest.{padded, timeOf, dependencesOf, countOf, maxDepth, maxCube}
+use Rattle.nest.specs.Nest.{padded, countOf, maxDepth, maxCube}
 use Rattle.nest.specs.Points.{pointsOf}
 use Rattle.nest.specs.Refusals.{refusal}
 use Rattle.nest.proofs.Accepted.{depth-is}

@@ -1,11 +1,11 @@
 -- `group_lines` writes the groups and the blocks of the first iterations of the projection lines, and the block of each iteration. Assumes nothing.
 use borrow.Author.Needs.{needs}
-use mathlib.Core.Path.{_≡_, sym, ap, subst, _∙_}
+use mathlib.Core.Path.{_≡_, ap, _∙_}
 use mathlib.Core.List.{List, _++_}
-use Prim.Native.Nat.{ℕ, _*_, _<_, _≤_}
+use Prim.Native.Nat.{ℕ}
 use native.Mathlib.Omega.{arith}
 use lib.IntN.{ℤ}
-use lib.ListN.{length, getD, take, drop}
+use lib.ListN.{length, take, drop}
 use Rattle.integers.specs.Vector.{Vector, eqV}
 use Rattle.numbering.proofs.Table.{table-number}
 use Rattle.grouping.specs.Basis.{basisFrame}

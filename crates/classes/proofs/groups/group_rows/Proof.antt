@@ -12,12 +12,12 @@ use Rattle.grouping.specs.Basis.{inOneClass, basisFrame}
 use Rattle.grouping.specs.Grouping.{Frame}
 use Rattle.numbering.specs.Tables.{row}
 use Rattle.classes.proofs.ClassFacts.{class-refl}
-use Rattle.classes.proofs.KeyTable.{Keying, keying-start, keying-more, keying-end, key-most, head-low, head-same}
+use Rattle.classes.proofs.GroupTables.{GroupsTo, groups-start, groups-more, groups-end, class-most, head-low, head-same}
 use Rattle.classes.proofs.groups.group_rows.Statement.{statement}
 use Rattle.classes.proofs.groups.group_rows.Tie as tie
 
 abbrev Inv-loop : tie.InvT-loop
-Inv-loop f r points classes n groups₀ heads₀ k₀ i₀ groups heads k i = (i ≤ n) × (length heads ≡ 4096) × Keying (inOneClass (f .p) (f .count) (f .v1) (f .v2) (f .v3)) (basisFrame (f .p) (f .count) (f .v1) (f .v2) (f .v3) r) (f .count) points groups₀ groups heads k i
+Inv-loop f r points classes n groups₀ heads₀ k₀ i₀ groups heads k i = (i ≤ n) × (length heads ≡ 4096) × GroupsTo (inOneClass (f .p) (f .count) (f .v1) (f .v2) (f .v3)) (basisFrame (f .p) (f .count) (f .v1) (f .v2) (f .v3) r) (f .count) points groups₀ groups heads k i
 
 abbrev μ-loop : tie.MeasureT-loop
 μ-loop f r points classes n groups₀ heads₀ k₀ i₀ groups heads k i = n - i
@@ -57,7 +57,7 @@ room l w = omega (arith, w, l .loop .inv .1, few l, n-most (l .before .before))
 most : (l : At) (c : ℕ) → l .loop .i < l .before .before .args .n → Numbers l c → c ≤ l .loop .k
 most l c w e =
     let d = l .before .before in
-    key-most (same d) (class-refl (d .pre .0)) (frame d) (d .args .f .count) (d .args .points .now) (d .args .groups .now) (l .loop .groups) (l .loop .heads) (l .loop .k) (l .loop .i) c (l .loop .inv .2) (room l w) (omega (arith, w, n-most d)) e
+    class-most (same d) (class-refl (d .pre .0)) (frame d) (d .args .f .count) (d .args .points .now) (d .args .groups .now) (l .loop .groups) (l .loop .heads) (l .loop .k) (l .loop .i) c (l .loop .inv .2) (room l w) (omega (arith, w, n-most d)) e
 
 low : (l : At) (c : ℕ) → l .loop .i < l .before .before .args .n → Numbers l c → getD (set (l .loop .heads) (l .loop .k) (l .loop .i)) c 0 ≤ l .loop .i
 low l c w e =
@@ -65,7 +65,7 @@ low l c w e =
     head-low (same d) (class-refl (d .pre .0)) (frame d) (d .args .f .count) (d .args .points .now) (d .args .groups .now) (l .loop .groups) (l .loop .heads) (l .loop .k) (l .loop .i) c (l .loop .inv .2) (room l w) (omega (arith, w, n-most d)) e
 
 loop-holds : tie.Need-loop-holds Inv-loop μ-loop
-loop-holds c = let d = c .before in (omega arith, refl, keying-start (same d) (frame d) (d .args .f .count) (d .args .points .now) (d .args .groups .now) _)
+loop-holds c = let d = c .before in (omega arith, refl, groups-start (same d) (frame d) (d .args .f .count) (d .args .points .now) (d .args .groups .now) _)
 
 -- the number of the class of point i
 class-is : (l : At) → l .loop .i < l .before .before .args .n → Numbers l (getD (l .before .before .args .classes .now) (l .loop .i) 0)
@@ -149,9 +149,9 @@ loop-again c =
     let z = l .loop .inv .2 .size in (
       omega (arith, w),
       length-set (l .loop .heads) (l .loop .k) (l .loop .i) ∙ l .loop .inv .1,
-      subst (λ (u : List ℤ). Keying (same d) (frame d) (d .args .f .count) (d .args .points .now) (d .args .groups .now) u (set (l .loop .heads) (l .loop .k) (l .loop .i)) (o .result) (l .loop .i + 1))
+      subst (λ (u : List ℤ). GroupsTo (same d) (frame d) (d .args .f .count) (d .args .points .now) (d .args .groups .now) u (set (l .loop .heads) (l .loop .k) (l .loop .i)) (o .result) (l .loop .i + 1))
           (sym (c .before .put-row .ensures))
-          (keying-more (same d) (class-refl (d .pre .0)) (frame d) (d .args .f .count) (d .args .points .now) (d .args .groups .now) (l .loop .groups) (l .loop .heads) (l .loop .k) (l .loop .i) (getD (d .args .classes .now) (l .loop .i) 0) (l .loop .inv .2) (room l w) (omega (arith, w, n-most d)) (class-is l w) (o .result) (o .ensures .0) (o .ensures .1) (g .result) (omega (arith, w, z, groups-long d)) (g .ensures .1) (g .ensures .0)),
+          (groups-more (same d) (class-refl (d .pre .0)) (frame d) (d .args .f .count) (d .args .points .now) (d .args .groups .now) (l .loop .groups) (l .loop .heads) (l .loop .k) (l .loop .i) (getD (d .args .classes .now) (l .loop .i) 0) (l .loop .inv .2) (room l w) (omega (arith, w, n-most d)) (class-is l w) (o .result) (o .ensures .0) (o .ensures .1) (g .result) (omega (arith, w, z, groups-long d)) (g .ensures .1) (g .ensures .0)),
     )
 
 same-length : tie.Need-same-length Inv-loop μ-loop
@@ -162,7 +162,7 @@ returns c =
     let l = c .before in
     let d = l .before .before in
     let f = d .args .f in
-    keying-end (f .p) (f .v1) (f .v2) (f .v3) (f .count) (d .args .r) (d .args .points .now) (d .args .groups .now) (l .loop .groups) (l .loop .heads) (l .loop .k) (l .loop .i) (d .args .n) (l .loop .inv .2) (omega (arith, l .loop .inv .1, few l, n-most d)) (omega arith)
+    groups-end (f .p) (f .v1) (f .v2) (f .v3) (f .count) (d .args .r) (d .args .points .now) (d .args .groups .now) (l .loop .groups) (l .loop .heads) (l .loop .k) (l .loop .i) (d .args .n) (l .loop .inv .2) (omega (arith, l .loop .inv .1, few l, n-most d)) (omega arith)
 
 pub group-rows-spec : {M : Type 1} → statement M
 group-rows-spec =

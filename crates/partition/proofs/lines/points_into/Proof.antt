@@ -17,7 +17,7 @@ use Rattle.nest.proofs.Padding.{length-padded}
 use Rattle.numbering.specs.Tables.{putRow}
 use Rattle.sources.specs.Keys.{digits, maxKey}
 use Rattle.sources.proofs.Digits.{length-digits}
-use Rattle.partition.specs.Heads.{pointsBy, PointAt}
+use Rattle.partition.specs.Heads.{pointsBy}
 use Rattle.partition.proofs.NestVectors.{Filled, filled-start, filled-more, filled-end, padded-within, padded-more}
 use Rattle.partition.proofs.lines.points_into.Statement.{statement}
 use Rattle.partition.proofs.lines.points_into.Tie as tie

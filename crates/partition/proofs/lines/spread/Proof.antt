@@ -1,11 +1,10 @@
 -- `spread` meets its contract. The loop's invariant: the first k entries are replaced, and the others are as they were. Assumes nothing.
 use borrow.Author.Needs.{needs}
 use mathlib.Core.Path.{_≡_, ap, _∙_}
-use mathlib.Core.List.{List, _++_}
+use mathlib.Core.List.{List}
 use Prim.Native.Nat.{ℕ, _-_, _<_, _≤_}
 use native.Mathlib.Omega.{arith}
-use lib.ListN.{length, getD, drop}
-use Rattle.integers.specs.Lists.{tab}
+use lib.ListN.{length, getD}
 use Rattle.numbering.proofs.Filled.{filledTo, filled-none, filled-length, filled-next, filled-more}
 use Rattle.partition.proofs.lines.spread.Statement.{statement}
 use Rattle.partition.proofs.lines.spread.Tie as tie
