@@ -44,12 +44,15 @@ module _ (s : LoopNest) (ok : refusal s ≡ 0) (P : Vector) (time : P ≡ padded
   abbrev w : Vector
   w = part (A .vector) 0 n
 
+  -- it has a component for each loop
   w-length : length w ≡ n
   w-length = part-length (A .vector) 0 n
 
+  -- the time vector with its zeros has four
   P-length : length P ≡ 4
   P-length = ap (λ (u : Vector). length u) time ∙ length-padded 4 (timeOf s) (omega (arith, time-length s, depth-few s ok))
 
+  -- and so has the shortest vector
   v-length : length (A .vector) ≡ 4
   v-length = sym (length-times (pos (A .shortest .factor)) (A .vector)) ∙ ap (λ (u : Vector). length u) (A .shortest .product) ∙ P-length
 
@@ -68,6 +71,7 @@ module _ (s : LoopNest) (ok : refusal s ≡ 0) (P : Vector) (time : P ≡ padded
       (ring (comp (A .vector) i ∷ pos (A .shortest .factor) ∷ []) (var 0 ⊗ var 1) (var 1 ⊗ var 0) tt ∙ sym (getD-times (pos (A .shortest .factor)) (A .vector) i)
       ∙ ap (λ (u : Vector). comp u i) (A .shortest .product ∙ time) ∙ at-padded 4 (timeOf s) i ∙ List·getD-eq-default (timeOf s) (pos 0) {n = i} (omega (arith, time-length s, l)))
 
+  -- so the shortest vector is w with zeros behind
   whole : A .vector ≡ padded 4 w
   whole =
       same-components (A .vector) (padded 4 w) (v-length ∙ sym (length-padded 4 w (omega (arith, w-length, depth-few s ok))))
@@ -95,9 +99,11 @@ module _ (s : LoopNest) (ok : refusal s ≡ 0) (P : Vector) (time : P ≡ padded
         ∙ minus-pad (4 - n) (point s i) (point s k) (point-length s i hi ∙ sym (point-length s k hk))
         ∙ sym (padded-is n (minus (point s i) (point s k)) (length-minus (point s i) (point s k) (point-length s i hi ∙ sym (point-length s k hk)) ∙ point-length s i hi))
 
+    -- a point with its zeros has four components
     four : (j : ℕ) → j < length (pointsOf s) → length (padded 4 (point s j)) ≡ 4
     four j h = length-padded 4 (point s j) (omega (arith, point-length s j h, depth-few s ok))
 
+    -- points whose keys are that far apart have one projection
     one : key (point s i) -ℤ key (point s k) ≡ key w → projection P (padded 4 (point s i)) ≡ projection P (padded 4 (point s k))
     one e =
         one-line P (padded 4 (point s i)) (padded 4 (point s k)) (padded 4 w) P-length (four i hi) (four k hk) along
