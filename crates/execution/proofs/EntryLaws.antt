@@ -1,19 +1,19 @@
 -- The ways out of a compute, of a delivery and of the entry that makes a move: what is answered and what the buffers hold, over plain lists and numbers.
 -- Assumes nothing.
-use mathlib.Core.Path.{_≡_, refl, sym, ap, _∙_}
+use mathlib.Core.Path.{_≡_, refl, sym, ap, _∙_, ap₂, subst}
 use mathlib.Core.Bool.{Bool, true, false, not, _&&_}
 use mathlib.Core.List.{List, []}
-use mathlib.Core.Logic.{_≢_, inl, inr}
+use mathlib.Core.Logic.{_≢_, inl, inr, ⊎-elim}
 use mathlib.Core.Option.{Option, none, some}
 use Prim.Native.Nat.{ℕ, _+_, _^_, _≤_, _<_}
 use native.Mathlib.Omega.{arith}
-use borrow.Author.Tests.{eq-eqb, ne-eqb, not-true}
+use borrow.Author.Tests.{eq-eqb, ne-eqb, lt-ltb, le-ltb}
 use lib.ListN.{length, getD, set}
 use Rattle.nest.specs.declared.LoopNest.{LoopNest}
 use Rattle.nest.specs.Nest.{toℕ, countOf}
 use Rattle.nest.specs.Points.{pointsOf}
 use Rattle.nest.specs.Refusals.{refusal, orElse, shortBuffer, noRoom}
-use Rattle.nest.specs.Sources.{sourceRank}
+use Rattle.nest.specs.Sources.{sourceRank, IsSource}
 use Rattle.nest.proofs.Entries.{orElse-first, orElse-second, orElse-zero, enough, all-enough}
 use Rattle.mapping.specs.Mapping.{isMessage}
 use Rattle.sequential.specs.Sequential.{ruleOf, valueOf}
@@ -21,10 +21,13 @@ use Rattle.execution.specs.declared.Answer.{Answer}
 use Rattle.execution.specs.declared.Answer.the-variants.{Computed, Delivered, Refused}
 use Rattle.execution.specs.Rules.{every, Move, compute, deliver, Effect, refuse, iteration, message, answer, Layout, View, there, sourceDone, ready, taking, effect}
 use Rattle.execution.specs.Run.{State, bit, stateView, moveRefusal, stateRefusal, moveEffect, after}
-use Rattle.execution.specs.Entry.{layoutIn, stateIn, viewIn, rankOr, numberOf, answerOf, Makes}
-use Rattle.execution.proofs.Base.{eq?, and-right, every-same}
-use Rattle.execution.proofs.RuleLaws.{effect-number, Numbered, move-refused, move-rules, taking-none, taking-ready, taking-waits, delivering-ready, delivering-refused, compute-there, compute-nowhere, deliver-there, deliver-nowhere}
+use Rattle.execution.specs.Entry.{layoutIn, stateIn, viewIn, rankOr, numberOf, answerOf, Makes, Delivers, readyFrom, deliveryAnswer, deliveryLeft}
+use Rattle.execution.proofs.Base.{eq?, every-same}
+use Rattle.execution.proofs.RuleLaws.{effect-number, Numbered, move-refused, move-rules, taking-none, taking-ready, taking-waits, delivering-ready, delivering-refused, compute-there, compute-nowhere, deliver-there, deliver-nowhere, message-some, not-ready}
 use Rattle.execution.proofs.FindingLaws.{takenOf, taken-none, taken-some}
+use Rattle.integers.specs.Lists.{below-or-not}
+use lib.Dec.{eqb}
+use Rattle.nest.proofs.PointLaws.{rank-found, rank-none}
 
 -- ---- by the effect
 
@@ -114,26 +117,24 @@ module _ (s : LoopNest) (steps processors values done delivered : List ℕ) (n :
 
 -- ---- the ways out of a delivery
 module _ (s : LoopNest) (processors done delivered : List ℕ) (n : ℕ) (count : n ≡ length (pointsOf s)) (k i : ℕ) where
-  -- what the move comes to, whatever the steps and the values are
-  abbrev pub Delivers : Answer → List ℕ → Type 0
-  Delivers r delivered′ =
-      ((steps values : List ℕ) → r ≡ answerOf s values (effect s (viewIn steps processors done delivered) (deliver k i)))
-      × ((steps values : List ℕ) → stateIn values done delivered′ ≡ after (ruleOf s) s (stateIn values done delivered) (effect s (viewIn steps processors done delivered) (deliver k i)))
+  -- what the move comes to
+  abbrev Comes : Answer → List ℕ → Type 0
+  Comes r delivered′ = Delivers s processors done delivered k i r delivered′
 
   -- by the effect
   delivery-by : (x : Effect) (r : Answer) (delivered′ : List ℕ) → ((steps : List ℕ) → effect s (viewIn steps processors done delivered) (deliver k i) ≡ x)
-      → ((values : List ℕ) → Done s (stateIn values done delivered) x r (stateIn values done delivered′)) → Delivers r delivered′
+      → ((values : List ℕ) → Done s (stateIn values done delivered) x r (stateIn values done delivered′)) → Comes r delivered′
   delivery-by x r delivered′ e d = (
     λ steps values. by-effect s (stateIn values done delivered) (effect s (viewIn steps processors done delivered) (deliver k i)) x r (stateIn values done delivered′) (e steps) (d values) .0,
     λ steps values. by-effect s (stateIn values done delivered) (effect s (viewIn steps processors done delivered) (deliver k i)) x r (stateIn values done delivered′) (e steps) (d values) .1,
   )
 
   -- there is no such rank
-  pub no-rank : n ≤ k → Delivers (Refused 18) delivered
+  pub no-rank : n ≤ k → Comes (Refused 18) delivered
   no-rank h = delivery-by (refuse 18) (Refused 18) delivered (λ steps. deliver-nowhere s (viewIn steps processors done delivered) k i (inl (omega arith))) (λ values. refused s (stateIn values done delivered) 18)
 
   -- there is no such dependence
-  pub no-dependence : (m : ℕ) → m ≡ countOf s → m ≤ i → Delivers (Refused 18) delivered
+  pub no-dependence : (m : ℕ) → m ≡ countOf s → m ≤ i → Comes (Refused 18) delivered
   no-dependence m e h = delivery-by (refuse 18) (Refused 18) delivered (λ steps. deliver-nowhere s (viewIn steps processors done delivered) k i (inr (omega arith))) (λ values. refused s (stateIn values done delivered) 18)
 
   -- steps are no part of the test of a message
@@ -147,23 +148,45 @@ module _ (s : LoopNest) (processors done delivered : List ℕ) (n : ℕ) (count 
 
   module _ (m : ℕ) (b : Bool) (dependences : m ≡ countOf s) (hk : k < n) (hi : i < m) (q : b ≡ ready s (viewIn [] processors done delivered) k i) where
     -- the message cannot be delivered
-    pub out-of-turn : b ≡ false → Delivers (Refused 16) delivered
+    pub out-of-turn : b ≡ false → Comes (Refused 16) delivered
     out-of-turn f =
         delivery-by (refuse 16) (Refused 16) delivered
         (λ steps. let v = viewIn steps processors done delivered in deliver-there s v k i (omega arith) (omega arith) ∙ delivering-refused s v k i (same-ready steps b q ∙ f))
         (λ values. refused s (stateIn values done delivered) 16)
 
     -- it is delivered
-    pub delivery : (x : ℕ) → b ≡ true → x ≡ getD delivered k 0 + 2 ^ i → Delivers (Delivered (record { rank = k; dependence = i })) (set delivered k x)
+    pub delivery : (x : ℕ) → b ≡ true → x ≡ getD delivered k 0 + 2 ^ i → Comes (Delivered (record { rank = k; dependence = i })) (set delivered k x)
     delivery x t e =
         delivery-by (message k i) (Delivered (record { rank = k; dependence = i })) (set delivered k x)
         (λ steps. let v = viewIn steps processors done delivered in deliver-there s v k i (omega arith) (omega arith) ∙ delivering-ready s v k i (same-ready steps b q ∙ t))
         (λ values. delivers s values done delivered k i x e)
 
-    -- and then its bit is 0
-    pub bit-free : b ≡ true → bit i (getD delivered k 0) ≡ false
-    bit-free t = not-true (bit i (getD delivered k 0)) (and-right (sourceDone (viewIn [] processors done delivered) (sourceRank s k i)) (not (bit i (getD delivered k 0)))
-        (and-right (isMessage s processors k i) (sourceDone (viewIn [] processors done delivered) (sourceRank s k i) && not (bit i (getD delivered k 0))) (sym q ∙ t)))
+  -- where the rank j of the source is known the test is that of the message
+  ready-from : (j : ℕ) → IsSource s k i j → readyFrom j n processors done delivered k i ≡ ready s (viewIn [] processors done delivered) k i
+  ready-from j e = ⊎-elim (λ (l : j < n). there l) (λ (l : n ≤ j). missing l) (below-or-not j n)
+    where
+      there : j < n → readyFrom j n processors done delivered k i ≡ ready s (viewIn [] processors done delivered) k i
+      there l =
+          let f : sourceRank s k i ≡ some j = rank-found s k i j e (omega arith) in
+          ap (λ b. b && (not (eqb (getD processors j 0) (getD processors k 0)) && (not (eqb (getD done j 0) 0) && not (bit i (getD delivered k 0))))) (lt-ltb j n l)
+          ∙ sym (ap₂ (λ (a b : Bool). a && (b && not (bit i (getD delivered k 0)))) (message-some s processors k i j f) (ap (sourceDone (viewIn [] processors done delivered)) f))
+
+      missing : n ≤ j → readyFrom j n processors done delivered k i ≡ ready s (viewIn [] processors done delivered) k i
+      missing l =
+          let f : sourceRank s k i ≡ none = rank-none s k i j e (omega arith) in
+          ap (λ b. b && (not (eqb (getD processors j 0) (getD processors k 0)) && (not (eqb (getD done j 0) 0) && not (bit i (getD delivered k 0))))) (le-ltb j n l)
+          ∙ sym (not-ready s (viewIn [] processors done delivered) k i f)
+
+  -- so what is answered and left by it is what the move comes to
+  pub delivers-from : (j : ℕ) (r : Answer) (delivered′ : List ℕ) → k < n → i < countOf s → IsSource s k i j
+      → r ≡ deliveryAnswer (readyFrom j n processors done delivered k i) k i → delivered′ ≡ deliveryLeft (readyFrom j n processors done delivered k i) delivered k i → Comes r delivered′
+  delivers-from j r delivered′ hk hi e p q =
+      subst (λ a. Comes a delivered′) (sym p)
+      (subst (λ l. Comes (deliveryAnswer (readyFrom j n processors done delivered k i) k i) l) (sym q) (by (readyFrom j n processors done delivered k i) (ready-from j e)))
+    where
+      by : (b : Bool) → b ≡ ready s (viewIn [] processors done delivered) k i → Comes (deliveryAnswer b k i) (deliveryLeft b delivered k i)
+      by true t = delivery (countOf s) true refl hk hi t (getD delivered k 0 + 2 ^ i) refl refl
+      by false t = out-of-turn (countOf s) false refl hk hi t refl
 
 -- ---- the ways out of the entry
 module _ (s : LoopNest) (steps processors values done delivered : List ℕ) (mv : Move) where

@@ -8,7 +8,7 @@ use mathlib.Core.Option.{Option, none, some}
 use Prim.Native.Nat.{ℕ, zero, suc, _+_, _-_, _≤_, _<_}
 use native.Mathlib.Omega.{arith}
 use native.Mathlib.Numerals.{add-one}
-use borrow.Author.Tests.{lt-ltb, le-ltb, eq-eqb, ne-eqb}
+use borrow.Author.Tests.{lt-ltb, le-ltb, eq-eqb, ne-eqb, not-true}
 use lib.Dec.{eqb, ltb}
 use lib.IntN.{ℤ}
 use lib.ListN.{length, getD}
@@ -19,12 +19,12 @@ use Rattle.nest.specs.Points.{pointsOf, rank, source}
 use Rattle.nest.specs.Refusals.{dependence}
 use Rattle.nest.specs.Sources.{sourceRank}
 use Rattle.nest.proofs.PointLaws.{source-found, source-none}
-use Rattle.execution.specs.Rules.{every, better, least, View, stepIn, waits, there, sourceDone, ready}
+use Rattle.execution.specs.Rules.{every, better, least, View, stepIn, waits, there}
 use Rattle.execution.specs.Run.{bit}
-use Rattle.execution.specs.Entry.{viewIn, rankOr}
-use Rattle.execution.proofs.Base.{opt, every-refute, better-less, better-not, least-some}
+use Rattle.execution.specs.Entry.{viewIn, rankOr, readyFrom}
+use Rattle.execution.proofs.Base.{opt, every-refute, better-less, better-not, least-some, and-right}
 use Rattle.execution.proofs.BitLaws.{every-more, least-start, least-more}
-use Rattle.execution.proofs.RuleLaws.{there-own, there-other, message-some, not-ready}
+use Rattle.execution.proofs.RuleLaws.{there-own, there-other}
 
 -- ---- the iteration that a processor takes
 
@@ -202,28 +202,31 @@ module _ (s : LoopNest) (k i j : ℕ) (point : List ℤ) (n : ℕ) (count : n �
   pub there-delivered : (p : ℕ) (b : Bool) → j < n → getD processors j 0 ≢ p → b ≡ bit i (getD delivered k 0) → b ≡ there view p k i (sourceRank s k i)
   there-delivered p b l g q = q ∙ sym (ap (there view p k i) (found l) ∙ there-other view p k i j g)
 
-  -- ---- messages
-
-  -- a source that is no iteration sends none
-  pub ready-none : n ≤ j → false ≡ ready s view k i
-  ready-none l = sym (not-ready s view k i (missing l))
-
-  -- of one that is
-  ready-is : j < n → ready s view k i ≡ (not (eqb (getD processors j 0) (getD processors k 0)) && (not (eqb (getD done j 0) 0) && not (bit i (getD delivered k 0))))
-  ready-is l =
-      ap₂ (λ (a b : Bool). a && (b && not (bit i (getD delivered k 0)))) (message-some s processors k i j (found l)) (ap (sourceDone view) (found l))
+-- ---- messages, by the rank j of the source
+module _ (j n k i : ℕ) (processors done delivered : List ℕ) where
+  -- there is none
+  pub from-none : n ≤ j → false ≡ readyFrom j n processors done delivered k i
+  from-none l = rw (le-ltb j n l) refl
 
   -- it is on the same processor
-  pub ready-same : j < n → getD processors j 0 ≡ getD processors k 0 → false ≡ ready s view k i
-  ready-same l g = sym (ready-is l ∙ rw (eq-eqb (getD processors j 0) (getD processors k 0) g) refl)
+  pub from-same : j < n → getD processors j 0 ≡ getD processors k 0 → false ≡ readyFrom j n processors done delivered k i
+  from-same l g = rw (lt-ltb j n l, eq-eqb (getD processors j 0) (getD processors k 0) g) refl
 
   -- it is not done
-  pub ready-missing : j < n → getD processors j 0 ≢ getD processors k 0 → getD done j 0 ≡ 0 → false ≡ ready s view k i
-  ready-missing l g d = sym (ready-is l ∙ rw (ne-eqb (getD processors j 0) (getD processors k 0) g, eq-eqb (getD done j 0) 0 d) refl)
+  pub from-missing : j < n → getD processors j 0 ≢ getD processors k 0 → getD done j 0 ≡ 0 → false ≡ readyFrom j n processors done delivered k i
+  from-missing l g d = rw (lt-ltb j n l, ne-eqb (getD processors j 0) (getD processors k 0) g, eq-eqb (getD done j 0) 0 d) refl
 
   -- its bit decides
-  pub ready-bit : (b : Bool) → j < n → getD processors j 0 ≢ getD processors k 0 → getD done j 0 ≢ 0 → b ≡ bit i (getD delivered k 0) → not b ≡ ready s view k i
-  ready-bit b l g d q = ap not q ∙ sym (ready-is l ∙ rw (ne-eqb (getD processors j 0) (getD processors k 0) g, ne-eqb (getD done j 0) 0 d) refl)
+  pub from-bit : (b : Bool) → j < n → getD processors j 0 ≢ getD processors k 0 → getD done j 0 ≢ 0 → b ≡ bit i (getD delivered k 0) → not b ≡ readyFrom j n processors done delivered k i
+  from-bit b l g d q = rw (lt-ltb j n l, ne-eqb (getD processors j 0) (getD processors k 0) g, ne-eqb (getD done j 0) 0 d) (ap not q)
+
+  -- where it can be delivered its bit is 0
+  pub from-free : readyFrom j n processors done delivered k i ≡ true → bit i (getD delivered k 0) ≡ false
+  from-free t =
+      not-true (bit i (getD delivered k 0))
+      (and-right (not (eqb (getD done j 0) 0)) (not (bit i (getD delivered k 0)))
+      (and-right (not (eqb (getD processors j 0) (getD processors k 0))) (not (eqb (getD done j 0) 0) && not (bit i (getD delivered k 0)))
+      (and-right (ltb j n) (not (eqb (getD processors j 0) (getD processors k 0)) && (not (eqb (getD done j 0) 0) && not (bit i (getD delivered k 0)))) t)))
 
 -- ---- the test of all sources
 

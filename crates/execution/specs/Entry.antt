@@ -2,18 +2,20 @@
 -- each case of the answer.
 -- Assumes nothing.
 use mathlib.Core.Path.{_≡_}
+use mathlib.Core.Bool.{Bool, true, false, not, _&&_}
 use mathlib.Core.List.{List, [], _∷_}
 use mathlib.Core.Option.{Option, none, some}
-use Prim.Native.Nat.{ℕ}
+use Prim.Native.Nat.{ℕ, _+_, _^_}
+use lib.Dec.{eqb, ltb}
 use Rattle.nest.specs.declared.LoopNest.{LoopNest}
-use lib.ListN.{getD}
+use lib.ListN.{getD, set}
 use Rattle.sequential.specs.Sequential.{ruleOf, valueOf, valuesOf}
 use Rattle.execution.specs.declared.Move as asked
 use Rattle.execution.specs.declared.Move.the-variants.{Compute, Deliver}
 use Rattle.execution.specs.declared.Answer.{Answer}
 use Rattle.execution.specs.declared.Answer.the-variants.{Computed, Delivered, Refused}
-use Rattle.execution.specs.Rules.{Move, compute, deliver, Effect, refuse, iteration, message, Layout, View}
-use Rattle.execution.specs.Run.{State, stateView, moveEffect, moveAnswer, moveAfter}
+use Rattle.execution.specs.Rules.{Move, compute, deliver, Effect, refuse, iteration, message, Layout, View, effect}
+use Rattle.execution.specs.Run.{State, stateView, bit, after, moveEffect, moveAnswer, moveAfter}
 
 -- ---- lent buffers
 
@@ -52,6 +54,26 @@ unfoldable pub answerOf : LoopNest → List ℕ → Effect → Answer
 answerOf s values (refuse number) = Refused number
 answerOf s values (iteration k) = Computed (record { rank = k; value = valueOf (ruleOf s) s values k })
 answerOf s values (message k i) = Delivered (record { rank = k; dependence = i })
+
+-- ---- deliveries
+
+-- what a delivery answers and leaves, whatever the steps and the values are
+abbrev pub Delivers : LoopNest → List ℕ → List ℕ → List ℕ → ℕ → ℕ → Answer → List ℕ → Type 0
+Delivers s processors done delivered k i r delivered′ =
+    ((steps values : List ℕ) → r ≡ answerOf s values (effect s (viewIn steps processors done delivered) (deliver k i)))
+    × ((steps values : List ℕ) → stateIn values done delivered′ ≡ after (ruleOf s) s (stateIn values done delivered) (effect s (viewIn steps processors done delivered) (deliver k i)))
+
+-- the same where the rank j of the source is known, which is n or more where there is none: the message can be delivered
+abbrev pub readyFrom : ℕ → ℕ → List ℕ → List ℕ → List ℕ → ℕ → ℕ → Bool
+readyFrom j n processors done delivered k i =
+    ltb j n && (not (eqb (getD processors j 0) (getD processors k 0)) && (not (eqb (getD done j 0) 0) && not (bit i (getD delivered k 0))))
+
+-- what is answered, and what is left
+abbrev pub deliveryAnswer : Bool → ℕ → ℕ → Answer
+deliveryAnswer b k i = elim b [ true ↦ Delivered (record { rank = k; dependence = i }) | false ↦ Refused 16 ]
+
+abbrev pub deliveryLeft : Bool → List ℕ → ℕ → ℕ → List ℕ
+deliveryLeft b delivered k i = elim b [ true ↦ set delivered k (getD delivered k 0 + 2 ^ i) | false ↦ delivered ]
 
 -- ---- calls of the entry
 

@@ -12,9 +12,9 @@ ghost use Rattle.nest.specs.Nest.{countOf, padded, maxDepth, maxDependences};
 ghost use Rattle.nest.specs.Points.{pointsOf};
 ghost use Rattle.nest.specs.Refusals.{refusal};
 ghost use Rattle.nest.specs.Sources.{sourceRank};
-ghost use Rattle.execution.specs.Rules.{every, better, least, stepIn, waits, there, ready};
+ghost use Rattle.execution.specs.Rules.{every, better, least, stepIn, waits, there};
 ghost use Rattle.execution.specs.Run.{bit};
-ghost use Rattle.execution.specs.Entry.{viewIn, rankOr};
+ghost use Rattle.execution.specs.Entry.{viewIn, rankOr, readyFrom};
 
 // 2^i, for a bit of a byte.
 fn power(i: usize) -> u8
@@ -143,9 +143,10 @@ pub fn all_there(
     true
 }
 
-// Whether the message of iteration k along dependence i can be delivered: it is one, its source is done, and its bit is 0.
+// Whether the message of iteration k along dependence i, whose source has rank j or is none of the n iterations, can be delivered: it is one, its source is done, and
+// its bit is 0.
 pub fn is_ready(
-    s: LoopNest,
+    j: usize,
     n: usize,
     processors: &[u8],
     done: &[u8],
@@ -153,12 +154,10 @@ pub fn is_ready(
     k: usize,
     i: usize,
 ) -> bool
-    requires { ⌜ (refusal s ≡ 0) × (n ≡ length (pointsOf s)) × (k < n) × (i < countOf s) ⌝ }
+    requires { ⌜ (k < n) × (i < maxDependences) ⌝ }
     requires { ⌜ (n ≤ length (now processors)) × (n ≤ length (now done)) × (n ≤ length (now delivered)) ⌝ }
-    ensures { λ r. ⌜ r ≡ ready s (viewIn [] (now (processors .entry)) (now (done .entry)) (now (delivered .entry))) k i ⌝ }
+    ensures { λ r. ⌜ r ≡ readyFrom j n (now (processors .entry)) (now (done .entry)) (now (delivered .entry)) k i ⌝ }
 {
-    let point = nest::point_of(s, k);
-    let j = nest::source_at(s, point, i);
     if n <= j {
         return false;
     }

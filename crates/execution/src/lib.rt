@@ -5,16 +5,15 @@ mod finding;
 use nest::LoopNest;
 use nest::SHORT_BUFFER;
 ghost use mathlib.Core.Path.{_≡_};
-ghost use mathlib.Core.List.{List};
-ghost use Prim.Native.Nat.{ℕ, _≤_, _^_};
+ghost use Prim.Native.Nat.{_≤_, _^_, _<_};
 ghost use lib.ListN.{length};
-ghost use Rattle.nest.specs.Nest.{toℕ, maxCube};
+ghost use Rattle.nest.specs.Nest.{toℕ, maxCube, maxDependences};
 ghost use Rattle.nest.specs.Points.{pointsOf};
 ghost use Rattle.nest.specs.Refusals.{refusal, orElse, shortBuffer, noRoom};
 ghost use Rattle.sequential.specs.Sequential.{ruleOf};
 ghost use Rattle.execution.specs.Rules.{compute, deliver, effect};
 ghost use Rattle.execution.specs.Run.{after};
-ghost use Rattle.execution.specs.Entry.{layoutIn, stateIn, viewIn, moveOf, answerOf, Makes};
+ghost use Rattle.execution.specs.Entry.{layoutIn, stateIn, viewIn, moveOf, answerOf, Makes, Delivers, readyFrom, deliveryAnswer, deliveryLeft};
 
 // waiting: compute, a source is not there
 pub const WAITING: u8 = 15;
@@ -65,7 +64,7 @@ fn processors_in(s: LoopNest) -> usize
 }
 
 // 14 if one of the five buffers of a move has fewer entries than there are iterations, 0 otherwise.
-fn check_buffers(
+pub fn check_buffers(
     n: usize,
     steps: usize,
     processors: usize,
@@ -83,7 +82,7 @@ fn check_buffers(
 }
 
 // A compute on processor p, of an accepted nest of n iterations: the iteration that it takes gets its value and its done byte, if its sources are there.
-fn compute(
+pub fn compute(
     s: LoopNest,
     n: usize,
     p: usize,
@@ -118,6 +117,32 @@ fn compute(
     })
 }
 
+// A delivery of the message of iteration k along dependence i, both there, whose source has rank j or is none of the n iterations: its bit is set, if it is a message that can
+// be delivered.
+pub fn deliver_from(
+    j: usize,
+    n: usize,
+    k: usize,
+    i: usize,
+    processors: &[u8],
+    done: &[u8],
+    delivered: &mut [u8],
+) -> Answer
+    requires { ⌜ (k < n) × (i < maxDependences) ⌝ }
+    requires { ⌜ (n ≤ length (now processors)) × (n ≤ length (now done)) × (n ≤ length (now delivered)) ⌝ }
+    ensures { λ r. ⌜ r ≡ deliveryAnswer (readyFrom j n (now (processors .entry)) (now (done .entry)) (now (delivered .entry)) k i) k i ⌝ }
+    ensures { λ r. ⌜ now (delivered .exit) ≡ deliveryLeft (readyFrom j n (now (processors .entry)) (now (done .entry)) (now (delivered .entry)) k i) (now (delivered .entry)) k i ⌝ }
+{
+    if !finding::is_ready(j, n, processors, done, delivered, k, i) {
+        return Answer::Refused(OUT_OF_TURN);
+    }
+    delivered[k] = finding::with_bit(delivered[k], i);
+    Answer::Delivered(Delivery {
+        rank: k,
+        dependence: i,
+    })
+}
+
 // A delivery of the message of iteration k along dependence i, of an accepted nest of n iterations: its bit is set, if it is a message that can be delivered.
 fn deliver(
     s: LoopNest,
@@ -130,8 +155,7 @@ fn deliver(
 ) -> Answer
     requires { ⌜ (refusal s ≡ 0) × (n ≡ length (pointsOf s)) ⌝ }
     requires { ⌜ (n ≤ length (now processors)) × (n ≤ length (now done)) × (n ≤ length (now delivered)) ⌝ }
-    ensures { λ r. ⌜ ((steps values : List ℕ) → r ≡ answerOf s values (effect s (viewIn steps (now (processors .entry)) (now (done .entry)) (now (delivered .entry))) (deliver k i))) ⌝ }
-    ensures { λ r. ⌜ ((steps values : List ℕ) → stateIn values (now (done .entry)) (now (delivered .exit)) ≡ after (ruleOf s) s (stateIn values (now (done .entry)) (now (delivered .entry))) (effect s (viewIn steps (now (processors .entry)) (now (done .entry)) (now (delivered .entry))) (deliver k i))) ⌝ }
+    ensures { λ r. ⌜ Delivers s (now (processors .entry)) (now (done .entry)) (now (delivered .entry)) k i r (now (delivered .exit)) ⌝ }
 {
     if n <= k {
         return Answer::Refused(NO_SUCH_PLACE);
@@ -139,14 +163,9 @@ fn deliver(
     if nest::to_size(s.count) <= i {
         return Answer::Refused(NO_SUCH_PLACE);
     }
-    if !finding::is_ready(s, n, processors, done, delivered, k, i) {
-        return Answer::Refused(OUT_OF_TURN);
-    }
-    delivered[k] = finding::with_bit(delivered[k], i);
-    Answer::Delivered(Delivery {
-        rank: k,
-        dependence: i,
-    })
+    let point = nest::point_of(s, k);
+    let j = nest::source_at(s, point, i);
+    deliver_from(j, n, k, i, processors, done, delivered)
 }
 
 // Makes the move that is asked for, on the step and processor tables of a plan and on the state's three buffers, all of any content. Answers what the move did, or the number of

@@ -1,5 +1,5 @@
 -- A call on numbers: its nest is the one that the numbers are, and its answer is made of those stored. Assumes nothing.
-use mathlib.Core.Path.{_≡_, subst, ap, ap₂, _∙_}
+use mathlib.Core.Path.{_≡_, subst, ap₂, _∙_}
 use mathlib.Core.List.{List}
 use Prim.Native.Nat.{ℕ}
 use lib.IntN.{ℤ}
@@ -17,8 +17,7 @@ use Rattle.numbers.specs.Numbers.{madeIn, MakesInto}
 pub located-from : (s n : LoopNest) (entries : ℕ) (i known : ℤ) (r : Span) → s ≡ n → i ≡ known → Locates s entries i r → Locates n entries known r
 located-from s n entries i known r e q p = p ∙ ap₂ (λ (z : LoopNest) (k : ℤ). spanOf z entries k) e q
 
--- a move on a nest that is known, by a request that is known
-pub move-from : (s n : LoopNest) (what known : asked.Move) (L : Layout) (st st′ : State ℕ) (r : Answer) (k : ℕ) (made : List ℕ) → s ≡ n → what ≡ known
-    → Makes s L st (moveOf what) r st′ → k ≡ numberOf r → made ≡ madeIn r → MakesInto n L st known k made st′
-move-from s n what known L st st′ r k made e q m kq mq =
-    (r, subst (λ (w : asked.Move). Makes n L st (moveOf w) r st′) q (subst (λ (z : LoopNest). Makes z L st (moveOf what) r st′) e m), kq, mq)
+-- a move by a request that is known
+pub move-from : (n : LoopNest) (what known : asked.Move) (L : Layout) (st st′ : State ℕ) (r : Answer) (k : ℕ) (made : List ℕ) → what ≡ known → Makes n L st (moveOf what) r st′ → k ≡ numberOf r
+    → made ≡ madeIn r → MakesInto n L st known k made st′
+move-from n what known L st st′ r k made q m kq mq = (r, subst (λ (w : asked.Move). Makes n L st (moveOf w) r st′) q m, kq, mq)

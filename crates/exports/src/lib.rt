@@ -2,9 +2,9 @@
 //
 // A nest is lent as its 45 numbers. What an entry answers beside its number (counts, lengths, a span, a nest that was read) is stored through a reference of its own, zeros where
 // the call is refused: it is a part of the answer. `rows::row` answers a part of a lent table, which C cannot take: `rowlock_locate` says where that part lies.
-use execution::Request;
 use numbers::NUMBERS;
 use numbers::made_in;
+use numbers::make_move_in;
 use numbers::move_in;
 use numbers::nest_in;
 use numbers::number_of;
@@ -145,16 +145,7 @@ pub extern "C" fn rowlock_move(
         (stateIn (now (values .exit)) (now (done .exit)) (now (delivered .exit))) ⌝ }
 {
     let what = move_in(kind, first, second);
-    let request = Request { what: what };
-    let answer = execution::make_move(
-        nest_in(numbers),
-        request,
-        steps,
-        processors,
-        values,
-        done,
-        delivered,
-    );
+    let answer = make_move_in(numbers, what, steps, processors, values, done, delivered);
     *made = made_in(answer);
     number_of(answer)
 }

@@ -459,7 +459,7 @@ fn check_weights(boundary: i64, weights: &[i64], m: usize) -> u8
 }
 
 // `check`, of a nest that is lent in its parts.
-pub fn check_parts<'a>(
+fn check_parts<'a>(
     depth: i64,
     count: i64,
     cube: i64,
@@ -682,10 +682,10 @@ pub fn source_at(s: LoopNest, point: [i64; LoopNest::MAX_DEPTH], i: usize) -> us
 
 // The rank of the source of an iteration along dependence i, of n loops that have so many index points in all; their number where the source is none of them. From the
 // innermost loop outward, each index is what the extent of its loop leaves of the iteration's rank.
-pub fn source_rank(
-    lower: &[i64],
-    upper: &[i64],
-    dependences: &[i64],
+pub fn source_rank<'a>(
+    lower: &'a [i64],
+    upper: &'a [i64],
+    dependences: &'a [i64],
     n: usize,
     total: usize,
     iteration: usize,
@@ -707,7 +707,8 @@ pub fn source_rank(
         let high = upper[k];
         let extent = extent_of(low, high);
         let index = index_at(low, rest % extent) - dependences[i * LoopNest::MAX_DEPTH + k];
-        if is_outside(low, high, index) {
+        let missing = is_outside(low, high, index);
+        if missing {
             return total;
         }
         at = at + distance(low, index) * stride;

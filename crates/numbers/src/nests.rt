@@ -1,11 +1,15 @@
 // A nest as 45 numbers in a row, in the order of LoopNest's fields.
+use nest::Inspection;
 use nest::LoopNest;
 ghost use mathlib.Core.Path.{_≡_};
-ghost use Prim.Native.Nat.{_+_, _≤_};
+ghost use Prim.Native.Nat.{_+_, _≤_, _<_};
 ghost use lib.ListN.{length};
 ghost use lib.Seq.{sets};
-ghost use Rattle.nest.specs.Nest.{part};
-ghost use Rattle.numbers.specs.Numbers.{nestIn, numbersOf};
+ghost use Rattle.nest.specs.Nest.{part, countOf, maxDependences};
+ghost use Rattle.numbers.specs.Numbers.{nestIn, numbersOf, boundaryAt};
+ghost use Rattle.nest.specs.Points.{pointsOf};
+ghost use Rattle.nest.specs.Refusals.{refusal, Inspects};
+ghost use Rattle.nest.specs.Sources.{IsSource};
 
 // How many numbers its dependences have.
 const COMPONENTS: usize = LoopNest::MAX_DEPTH * LoopNest::MAX_DEPENDENCES;
@@ -61,6 +65,42 @@ pub fn nest_in(numbers: &[i64; NUMBERS]) -> LoopNest
         boundary: numbers[BOUNDARY],
         weights: weights,
     }
+}
+
+// `inspect` of the nest that 45 numbers are, which stays where it is.
+pub fn inspect_in(numbers: &[i64]) -> Inspection
+    requires { ⌜ length (now numbers) ≡ boundaryAt + 1 + maxDependences ⌝ }
+    ensures { λ r. ⌜ Inspects (nestIn (now (numbers .entry))) r ⌝ }
+{
+    nest::inspect_parts(
+        numbers[0],
+        numbers[1],
+        numbers[2],
+        &numbers[LOWER..UPPER],
+        &numbers[UPPER..TIME],
+        &numbers[TIME..DEPENDENCES],
+        &numbers[DEPENDENCES..BOUNDARY],
+        numbers[BOUNDARY],
+        &numbers[WEIGHTS..NUMBERS],
+    )
+}
+
+// The rank of the source of iteration k along dependence i, of the accepted nest of n iterations that 45 numbers are; n where the source is none of them.
+pub fn source_in(numbers: &[i64], n: usize, k: usize, i: usize) -> usize
+    requires { ⌜ length (now numbers) ≡ boundaryAt + 1 + maxDependences ⌝ }
+    requires { ⌜ (refusal (nestIn (now numbers)) ≡ 0) × (n ≡ length (pointsOf (nestIn (now numbers)))) × (k < n) × (i < countOf (nestIn (now numbers))) ⌝ }
+    ensures { λ r. ⌜ IsSource (nestIn (now (numbers .entry))) k i r ⌝ }
+{
+    let depth = nest::to_size(numbers[0]);
+    nest::source_rank(
+        &numbers[LOWER..UPPER],
+        &numbers[UPPER..TIME],
+        &numbers[DEPENDENCES..BOUNDARY],
+        depth,
+        n,
+        k,
+        i,
+    )
 }
 
 // The 45 numbers of a nest.
