@@ -9,6 +9,5 @@ pub use crate::moves::make_move_in;
 pub use crate::moves::move_in;
 pub use crate::moves::number_of;
 pub use crate::nests::NUMBERS;
-pub use crate::nests::inspect_in;
 pub use crate::nests::nest_in;
 pub use crate::nests::numbers_of;
