@@ -1,4 +1,5 @@
-//! The goals: how long the proved entries may take, as multiples of the plain ones' times in the same run.
+//! The goals: how long the proved entries may take, as multiples of the plain ones' times in the
+//! same run.
 
 /// What is timed, on which nest, and the greatest ratio that is accepted.
 const GOALS: [(&str, &str, f64); 11] = [

@@ -1,4 +1,5 @@
-//! The run move by move, as one would write it in plain Rust for speed: the nest is checked once, and each move searches the tables as document 01 says.
+//! The run move by move, as one would write it in plain Rust for speed: the nest is checked once,
+//! and each move searches the tables as document 01 says.
 
 use crate::nest::{Answer, Move, Nest, State, Tables};
 use crate::plain::{check, dot, Loops, Vector};
@@ -32,7 +33,13 @@ impl Machine {
     /// Makes one move.
     pub fn make_move(&self, request: Move, tables: &Tables, state: &mut State) -> Answer {
         let n = self.iterations;
-        let lengths = [tables.steps.len(), tables.processors.len(), state.values.len(), state.done.len(), state.delivered.len()];
+        let lengths = [
+            tables.steps.len(),
+            tables.processors.len(),
+            state.values.len(),
+            state.done.len(),
+            state.delivered.len(),
+        ];
         if lengths.iter().any(|length| *length < n) {
             return refused(14);
         }
@@ -54,7 +61,11 @@ impl Machine {
                 None => self.boundary,
                 Some(source) => {
                     let here = tables.processors[source] as usize == processor;
-                    let there = if here { state.done[source] != 0 } else { state.delivered[rank] >> k & 1 == 1 };
+                    let there = if here {
+                        state.done[source] != 0
+                    } else {
+                        state.delivered[rank] >> k & 1 == 1
+                    };
                     if !there {
                         return refused(15);
                     }
@@ -71,17 +82,27 @@ impl Machine {
     /// The processor's iteration that is not done, least in step, then in rank.
     fn next(&self, processor: u8, tables: &Tables, state: &State) -> Option<usize> {
         let n = self.iterations;
-        let (steps, processors, done) = (&tables.steps[..n], &tables.processors[..n], &state.done[..n]);
+        let (steps, processors, done) =
+            (&tables.steps[..n], &tables.processors[..n], &state.done[..n]);
         let mut least: Option<(u32, usize)> = None;
         for rank in 0..n {
-            if processors[rank] == processor && done[rank] == 0 && least.map_or(true, |(step, _)| steps[rank] < step) {
+            if processors[rank] == processor
+                && done[rank] == 0
+                && least.is_none_or(|(step, _)| steps[rank] < step)
+            {
                 least = Some((steps[rank], rank));
             }
         }
         least.map(|(_, rank)| rank)
     }
 
-    fn deliver(&self, rank: usize, dependence: usize, tables: &Tables, state: &mut State) -> Answer {
+    fn deliver(
+        &self,
+        rank: usize,
+        dependence: usize,
+        tables: &Tables,
+        state: &mut State,
+    ) -> Answer {
         if rank >= self.iterations || dependence >= self.loops.dependences.len() {
             return refused(18);
         }

@@ -1,4 +1,5 @@
-//! Times the proved planner beside a plain one, in one run, on nests on which both give the same tables. `check` ends with status 1 where a goal is missed.
+//! Times the proved planner beside a plain one, in one run, on nests on which both give the same
+//! tables. `check` ends with status 1 where a goal is missed.
 
 mod goals;
 mod machine;
@@ -26,11 +27,21 @@ fn l2(extents: &[i64; 3]) -> Nest {
 
 /// L2 with eight dependences.
 fn l2_with_eight(extents: &[i64; 3]) -> Nest {
-    let units: [&[i64]; 8] = [&[0, 1, 0], &[1, 0, 0], &[0, 0, 1], &[1, 1, 0], &[1, 0, 1], &[0, 1, 1], &[1, 1, 1], &[1, 1, -1]];
+    let units: [&[i64]; 8] = [
+        &[0, 1, 0],
+        &[1, 0, 0],
+        &[0, 0, 1],
+        &[1, 1, 0],
+        &[1, 0, 1],
+        &[0, 1, 1],
+        &[1, 1, 1],
+        &[1, 1, -1],
+    ];
     nest::with_extents(extents, &[1, 1, 1], &units, 6)
 }
 
-/// A nest whose chosen projections span a coarse lattice, so that few iterations share a class: at 16 x 16 x 16 it has 4035 classes.
+/// A nest whose chosen projections span a coarse lattice, so that few iterations share a class: at
+/// 16 x 16 x 16 it has 4035 classes.
 fn many_classes(extents: &[i64; 3]) -> Nest {
     nest::with_extents(extents, &[16, 15, 13], &[&[16, -15, 0], &[13, 0, -15]], 6)
 }
@@ -72,7 +83,8 @@ fn random_nest(random: &mut Random) -> Nest {
     nest
 }
 
-/// Both planners on one nest, with tables of so many entries: whether all answers are equal, and whether it is accepted.
+/// Both planners on one nest, with tables of so many entries: whether all answers are equal, and
+/// whether it is accepted.
 fn agree(nest: &Nest, entries: [usize; 4]) -> (bool, bool) {
     let mut ours = Tables::new(entries);
     let answer = proved::plan(nest, &mut ours);
@@ -87,7 +99,8 @@ fn agree(nest: &Nest, entries: [usize; 4]) -> (bool, bool) {
     (same, answer == 0)
 }
 
-/// Compares the planners on nests of every shape; answers how many there were and how many of them were accepted.
+/// Compares the planners on nests of every shape; answers how many there were and how many of them
+/// were accepted.
 fn compare(nests: usize) -> (usize, usize) {
     let mut random = Random(0x9E37_79B9_7F4A_7C15);
     let mut accepted = 0;
@@ -122,7 +135,8 @@ fn keep(answer: u8) {
     black_box(answer);
 }
 
-/// Times on one nest: proved plan, plain plan by search, plain plan by hash, proved fill, plain fill.
+/// Times on one nest: proved plan, plain plan by search, plain plan by hash, proved fill, plain
+/// fill.
 fn times(nest: &Nest, rounds: usize) -> (usize, Vec<f64>) {
     assert_eq!(agree(nest, [4100; 4]), (true, true), "the planners differ on {nest:?}");
     let mut tables: Vec<Tables> = (0..5).map(|_| Tables::new([4096; 4])).collect();
@@ -155,7 +169,9 @@ fn nests(scale: usize) -> Vec<(&'static str, Nest, usize)> {
 
 /// The times of `plan` and `fill` beside the plain ones, a line a nest.
 fn report_nests(scale: usize, reached: &mut Reached) {
-    println!("least times in microseconds; 'search' and 'hash' say how the plain planner finds classes\n");
+    println!(
+        "least times in microseconds; 'search' and 'hash': how the plain planner finds classes\n"
+    );
     println!(
         "{:<26} {:>9} {:>9} {:>9} {:>7} {:>7} {:>9} {:>9} {:>7}",
         "nest", "plan", "search", "hash", "ratio", "ratio", "fill", "plain", "ratio"
@@ -181,17 +197,26 @@ fn report_nests(scale: usize, reached: &mut Reached) {
 /// How the time of an iteration changes with their number.
 fn report_sizes(scale: usize) {
     println!("\nnanoseconds an iteration\n");
-    println!("{:<26} {:>10} {:>9} {:>9} {:>9} {:>9} {:>9}", "nest", "iterations", "plan", "search", "hash", "fill", "plain");
+    println!(
+        "{:<26} {:>10} {:>9} {:>9} {:>9} {:>9} {:>9}",
+        "nest", "iterations", "plan", "search", "hash", "fill", "plain"
+    );
     let sizes = [
         ("L1", [l1(16), l1(32), l1(64)]),
         ("L2", [l2(&[4, 8, 8]), l2(&[8, 8, 16]), l2(&[16, 16, 16])]),
-        ("many classes", [many_classes(&[4, 8, 8]), many_classes(&[8, 8, 16]), many_classes(&[16, 16, 16])]),
+        (
+            "many classes",
+            [many_classes(&[4, 8, 8]), many_classes(&[8, 8, 16]), many_classes(&[16, 16, 16])],
+        ),
     ];
     for (name, nests) in &sizes {
         for nest in nests {
             let (n, t) = times(nest, if *name == "many classes" { 2 } else { 20 } * scale);
             let each: Vec<f64> = t.iter().map(|x| x / n as f64).collect();
-            println!("{name:<26} {n:>10} {:>9.1} {:>9.1} {:>9.1} {:>9.1} {:>9.1}", each[0], each[1], each[2], each[3], each[4]);
+            println!(
+                "{name:<26} {n:>10} {:>9.1} {:>9.1} {:>9.1} {:>9.1} {:>9.1}",
+                each[0], each[1], each[2], each[3], each[4]
+            );
         }
     }
 }

@@ -33,7 +33,8 @@ pub struct Tables {
 }
 
 impl Tables {
-    /// Steps, blocks, processors and values of so many entries each, with a number in each that no planner writes everywhere.
+    /// Steps, blocks, processors and values of so many entries each, with a number in each that no
+    /// planner writes everywhere.
     pub fn new(entries: [usize; 4]) -> Tables {
         Tables {
             steps: vec![77; entries[0]],
@@ -45,14 +46,16 @@ impl Tables {
     }
 }
 
-/// A move: a processor computes its next iteration, or the message for a rank along a dependence is delivered.
+/// A move: a processor computes its next iteration, or the message for a rank along a dependence is
+/// delivered.
 #[derive(Clone, Copy, PartialEq, Eq, Debug)]
 pub enum Move {
     Compute(usize),
     Deliver(usize, usize),
 }
 
-/// The answer of a move: its number, and the rank and value computed, or the rank and dependence number delivered; zeros where refused.
+/// The answer of a move: its number, and the rank and value computed, or the rank and dependence
+/// number delivered; zeros where refused.
 #[derive(Clone, Copy, PartialEq, Eq, Debug)]
 pub struct Answer {
     pub number: u8,
@@ -70,6 +73,10 @@ pub struct State {
 impl State {
     /// A fresh state of so many iterations.
     pub fn fresh(iterations: usize) -> State {
-        State { values: vec![77; iterations], done: vec![0; iterations], delivered: vec![0; iterations] }
+        State {
+            values: vec![77; iterations],
+            done: vec![0; iterations],
+            delivered: vec![0; iterations],
+        }
     }
 }

@@ -1,5 +1,6 @@
-//! A planner as one would write it in plain Rust for speed: machine integers, one pass for each table, nothing proved. It follows document 01 and its
-//! source document 000. Loops behind the depth are taken as loops of one iteration, so that there are always three.
+//! A planner as one would write it in plain Rust for speed: machine integers, one pass for each
+//! table, nothing proved. It follows document 01 and its source document 000. Loops behind the
+//! depth are taken as loops of one iteration, so that there are always three.
 
 use std::collections::HashMap;
 
@@ -41,7 +42,11 @@ pub fn check(nest: &Nest) -> Result<usize, u8> {
     let n = nest.depth as usize;
     let m = nest.count as usize;
     let span = -1000..=1000;
-    if (0..n).any(|k| !span.contains(&nest.lower[k]) || !span.contains(&nest.upper[k]) || nest.lower[k] > nest.upper[k]) {
+    if (0..n).any(|k| {
+        !span.contains(&nest.lower[k])
+            || !span.contains(&nest.upper[k])
+            || nest.lower[k] > nest.upper[k]
+    }) {
         return Err(5);
     }
     let iterations: i64 = (0..n).map(|k| nest.upper[k] - nest.lower[k] + 1).product();
@@ -49,7 +54,9 @@ pub fn check(nest: &Nest) -> Result<usize, u8> {
         return Err(6);
     }
     check_vectors(nest, n, m)?;
-    if !(0..=65535).contains(&nest.boundary) || nest.weights[..m].iter().any(|w| !(0..=255).contains(w)) {
+    if !(0..=65535).contains(&nest.boundary)
+        || nest.weights[..m].iter().any(|w| !(0..=255).contains(w))
+    {
         return Err(13);
     }
     Ok(iterations as usize)
@@ -66,7 +73,7 @@ fn check_vectors(nest: &Nest, n: usize, m: usize) -> Result<(), u8> {
     if (0..m).any(|i| dependence(i).iter().any(|x| !span.contains(x))) {
         return Err(8);
     }
-    if (0..m).any(|i| dependence(i).iter().find(|x| **x != 0).map_or(true, |x| *x < 0)) {
+    if (0..m).any(|i| dependence(i).iter().find(|x| **x != 0).is_none_or(|x| *x < 0)) {
         return Err(9);
     }
     if (0..m).any(|j| (0..j).any(|i| dependence(i) == dependence(j))) {
@@ -107,7 +114,9 @@ impl Loops {
             upper,
             stride: [extent(1) * extent(2), extent(2), 1],
             time: first(&nest.time),
-            dependences: (0..nest.count as usize).map(|i| first(&nest.dependences[i * 3..])).collect(),
+            dependences: (0..nest.count as usize)
+                .map(|i| first(&nest.dependences[i * 3..]))
+                .collect(),
         }
     }
 
@@ -133,7 +142,8 @@ impl Loops {
         [self.lower[0] + rank / a, self.lower[1] + rank % a / b, self.lower[2] + rank % b]
     }
 
-    /// The rank of the point j - d, where j has this rank, if it is an iteration; `back` is d's product with the strides.
+    /// The rank of the point j - d, where j has this rank, if it is an iteration; `back` is d's
+    /// product with the strides.
     #[inline(always)]
     pub fn source(&self, rank: usize, j: Vector, d: Vector, back: i64) -> Option<usize> {
         let inside = |k: usize| (self.lower[k]..=self.upper[k]).contains(&(j[k] - d[k]));
@@ -147,12 +157,18 @@ impl Loops {
     /// The values of the sequential loop.
     fn fill(&self, nest: &Nest, values: &mut [u16]) {
         let boundary = nest.boundary as u32;
-        let sources: Vec<(Vector, i64, u32)> =
-            self.dependences.iter().zip(&nest.weights).map(|(d, w)| (*d, dot(*d, self.stride), *w as u32)).collect();
+        let sources: Vec<(Vector, i64, u32)> = self
+            .dependences
+            .iter()
+            .zip(&nest.weights)
+            .map(|(d, w)| (*d, dot(*d, self.stride), *w as u32))
+            .collect();
         self.each(|rank, j| {
             let mut sum = rank as u32;
             for (d, back, weight) in &sources {
-                let value = self.source(rank, j, *d, *back).map_or(boundary, |source| values[source] as u32);
+                let value = self
+                    .source(rank, j, *d, *back)
+                    .map_or(boundary, |source| values[source] as u32);
                 sum += weight * value;
             }
             values[rank] = sum as u16;
@@ -185,7 +201,8 @@ impl Loops {
     /// How many messages there are.
     fn messages(&self, processors: &[u8]) -> usize {
         let mut number = 0;
-        let sources: Vec<(Vector, i64)> = self.dependences.iter().map(|d| (*d, dot(*d, self.stride))).collect();
+        let sources: Vec<(Vector, i64)> =
+            self.dependences.iter().map(|d| (*d, dot(*d, self.stride))).collect();
         self.each(|rank, j| {
             for (d, back) in &sources {
                 if let Some(source) = self.source(rank, j, *d, *back) {
@@ -197,7 +214,8 @@ impl Loops {
     }
 }
 
-/// The chosen vectors beside the time vector, as what gives the coordinates of a point along them: normal · j / determinant.
+/// The chosen vectors beside the time vector, as what gives the coordinates of a point along them:
+/// normal · j / determinant.
 struct Frame {
     group_size: i64,
     /// How many vectors are chosen; for the others unit vectors stand in.
@@ -209,10 +227,12 @@ struct Frame {
 impl Frame {
     fn new(loops: &Loops) -> Frame {
         let time = loops.time;
-        let multipliers: Vec<i64> = loops.dependences.iter().map(|d| loops.multiplier(*d)).collect();
+        let multipliers: Vec<i64> =
+            loops.dependences.iter().map(|d| loops.multiplier(*d)).collect();
         let group_size = *multipliers.iter().max().expect("a nest has a dependence");
         let is_free = |d: Vector| cross(time, d) != [0; 3];
-        let grouping = (0..multipliers.len()).find(|i| multipliers[*i] == group_size && is_free(loops.dependences[*i]));
+        let grouping = (0..multipliers.len())
+            .find(|i| multipliers[*i] == group_size && is_free(loops.dependences[*i]));
         let mut vectors: Vec<Vector> = Vec::new();
         if let Some(i) = grouping {
             vectors.push(loops.dependences[i]);
@@ -239,12 +259,19 @@ impl Frame {
 
     /// Whether two places are in one class.
     fn in_one_class(&self, a: [i64; 2], b: [i64; 2]) -> bool {
-        (0..2).all(|k| if k < self.chosen { (a[k] - b[k]) % self.determinant == 0 } else { a[k] == b[k] })
+        (0..2).all(|k| {
+            if k < self.chosen {
+                (a[k] - b[k]) % self.determinant == 0
+            } else {
+                a[k] == b[k]
+            }
+        })
     }
 
     /// What all places of a class have in common.
     fn residue(&self, a: [i64; 2]) -> [i64; 2] {
-        let rest = |k: usize| if k < self.chosen { a[k].rem_euclid(self.determinant) } else { a[k] };
+        let rest =
+            |k: usize| if k < self.chosen { a[k].rem_euclid(self.determinant) } else { a[k] };
         [rest(0), rest(1)]
     }
 }
@@ -272,13 +299,22 @@ fn blocks(loops: &Loops, lookup: Lookup, blocks: &mut [u16]) -> Vec<Group> {
         }
         let place = frame.place(j);
         let class = match lookup {
-            Lookup::Search => seeds.iter().position(|seed| frame.in_one_class(*seed, place)).unwrap_or(seeds.len()),
+            Lookup::Search => seeds
+                .iter()
+                .position(|seed| frame.in_one_class(*seed, place))
+                .unwrap_or(seeds.len()),
             Lookup::Hash => *classes.entry(frame.residue(place)).or_insert(seeds.len()),
         };
         if class == seeds.len() {
             seeds.push(place);
         }
-        let coordinate = |k: usize| if k < frame.chosen { (place[k] - seeds[class][k]) / frame.determinant } else { 0 };
+        let coordinate = |k: usize| {
+            if k < frame.chosen {
+                (place[k] - seeds[class][k]) / frame.determinant
+            } else {
+                0
+            }
+        };
         let group = [coordinate(0).div_euclid(frame.group_size), coordinate(1), class as i64];
         blocks[rank] = *numbers.entry(group).or_insert_with(|| {
             groups.push(group);
@@ -302,7 +338,10 @@ fn processors(groups: &[Group], cube: i64) -> Vec<u8> {
     let mut bits = [0; 3];
     let mut turn = 0;
     for _ in 0..cube {
-        let Some(k) = (turn..turn + 3).map(|k| k % 3).find(|k| 1 << (bits[*k] + 1) <= width[*k]) else { break };
+        let Some(k) = (turn..turn + 3).map(|k| k % 3).find(|k| 1 << (bits[*k] + 1) <= width[*k])
+        else {
+            break;
+        };
         bits[k] += 1;
         turn = k + 1;
     }
@@ -333,7 +372,11 @@ pub fn plan(nest: &Nest, tables: &mut Tables, lookup: Lookup) -> u8 {
         Err(refusal) => return refusal,
         Ok(n) => n,
     };
-    if tables.steps.len() < n || tables.blocks.len() < n || tables.processors.len() < n || tables.values.len() < n {
+    if tables.steps.len() < n
+        || tables.blocks.len() < n
+        || tables.processors.len() < n
+        || tables.values.len() < n
+    {
         return 14;
     }
     let loops = Loops::new(nest);

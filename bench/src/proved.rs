@@ -24,6 +24,7 @@ pub fn make_move(nest: &Nest, request: Move, tables: &Tables, state: &mut State)
     let Tables { steps, processors, .. } = tables;
     let State { values, done, delivered } = state;
     let mut made = [0; 2];
-    let number = exported::make_move(nest, numbers, steps, processors, values, done, delivered, &mut made);
+    let number =
+        exported::make_move(nest, numbers, steps, processors, values, done, delivered, &mut made);
     Answer { number, made }
 }

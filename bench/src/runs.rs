@@ -15,17 +15,30 @@ pub struct Schedule {
     pub counts: [usize; 3],
 }
 
-/// A complete run, round by round: a compute on every processor in order, then all messages of what the round computed, until a round computes nothing.
+/// A complete run, round by round: a compute on every processor in order, then all messages of what
+/// the round computed, until a round computes nothing.
 pub fn round_robin(machine: &Machine, tables: &Tables, processors: usize) -> Schedule {
     let mut state = State::fresh(tables.counts[0]);
     let mut schedule = Schedule { stretches: Vec::new(), counts: [0; 3] };
     loop {
         let computes: Vec<Move> = (0..processors).map(Move::Compute).collect();
-        let answers: Vec<Answer> = computes.iter().map(|request| machine.make_move(*request, tables, &mut state)).collect();
-        let computed: Vec<usize> = answers.iter().filter(|answer| answer.number == 0).map(|answer| answer.made[0]).collect();
-        let deliveries: Vec<Move> = computed.iter().flat_map(|rank| machine.messages_from(*rank, tables)).collect();
+        let answers: Vec<Answer> = computes
+            .iter()
+            .map(|request| machine.make_move(*request, tables, &mut state))
+            .collect();
+        let computed: Vec<usize> = answers
+            .iter()
+            .filter(|answer| answer.number == 0)
+            .map(|answer| answer.made[0])
+            .collect();
+        let deliveries: Vec<Move> =
+            computed.iter().flat_map(|rank| machine.messages_from(*rank, tables)).collect();
         for request in &deliveries {
-            assert_eq!(machine.make_move(*request, tables, &mut state).number, 0, "{request:?} is ready");
+            assert_eq!(
+                machine.make_move(*request, tables, &mut state).number,
+                0,
+                "{request:?} is ready"
+            );
         }
         schedule.counts[0] += computed.len();
         schedule.counts[1] += processors - computed.len();
@@ -38,8 +51,13 @@ pub fn round_robin(machine: &Machine, tables: &Tables, processors: usize) -> Sch
 }
 
 impl Schedule {
-    /// Makes all moves from a fresh state; answers the nanoseconds of the computes and of the deliveries.
-    fn time(&self, iterations: usize, mut make_move: impl FnMut(Move, &mut State) -> Answer) -> [f64; 2] {
+    /// Makes all moves from a fresh state; answers the nanoseconds of the computes and of the
+    /// deliveries.
+    fn time(
+        &self,
+        iterations: usize,
+        mut make_move: impl FnMut(Move, &mut State) -> Answer,
+    ) -> [f64; 2] {
         let mut state = State::fresh(iterations);
         let mut times = [0.0; 2];
         for (k, stretch) in self.stretches.iter().enumerate() {
@@ -52,7 +70,8 @@ impl Schedule {
         times
     }
 
-    /// Stops unless the proved entry and the plain machine answer every move alike and end in the table of the sequential loop.
+    /// Stops unless the proved entry and the plain machine answer every move alike and end in the
+    /// table of the sequential loop.
     fn compare(&self, nest: &Nest, machine: &Machine, tables: &Tables) {
         let [iterations, _, _, _, messages] = tables.counts;
         let [mut ours, mut theirs] = [State::fresh(iterations), State::fresh(iterations)];
@@ -62,7 +81,11 @@ impl Schedule {
             assert!(ours == theirs, "the states differ after {request:?}");
         }
         assert!(ours.values[..] == tables.values[..iterations], "the run ends in another table");
-        assert_eq!([self.counts[0], self.counts[2]], [iterations, messages], "the run is not complete");
+        assert_eq!(
+            [self.counts[0], self.counts[2]],
+            [iterations, messages],
+            "the run is not complete"
+        );
     }
 }
 
@@ -77,20 +100,27 @@ fn refused_time(tables: &Tables, mut make_move: impl FnMut(Move, &mut State) -> 
     start.elapsed().as_nanos() as f64 / repetitions as f64
 }
 
-/// Least times in nanoseconds: of the whole run, of a compute, of a delivery, of a move refused for its place.
+/// Least times in nanoseconds: of the whole run, of a compute, of a delivery, of a move refused for
+/// its place.
 struct Times([f64; 4]);
 
 impl Times {
     fn least(self, computes: f64, deliveries: f64, refused: f64, schedule: &Schedule) -> Times {
         let [allowed, waiting, delivered] = schedule.counts.map(|count| count as f64);
-        let now = [computes + deliveries, computes / (allowed + waiting), deliveries / delivered, refused];
+        let now = [
+            computes + deliveries,
+            computes / (allowed + waiting),
+            deliveries / delivered,
+            refused,
+        ];
         let mut least = self.0;
         least.iter_mut().zip(now).for_each(|(old, new)| *old = old.min(new));
         Times(least)
     }
 }
 
-/// Times complete runs of a nest by the proved entry and by the plain machine in turn, and prints what they cost.
+/// Times complete runs of a nest by the proved entry and by the plain machine in turn, and prints
+/// what they cost.
 pub fn report(name: &str, nest: &Nest, rounds: usize, reached: &mut Reached) {
     let mut tables = Tables::new([4096; 4]);
     assert_eq!(proved::plan(nest, &mut tables), 0, "{name} is accepted");
@@ -101,11 +131,16 @@ pub fn report(name: &str, nest: &Nest, rounds: usize, reached: &mut Reached) {
 
     let [mut ours, mut theirs] = [Times([f64::INFINITY; 4]), Times([f64::INFINITY; 4])];
     for _ in 0..rounds {
-        let times = schedule.time(iterations, |request, state| proved::make_move(nest, request, &tables, state));
-        let refused = refused_time(&tables, |request, state| proved::make_move(nest, request, &tables, state));
+        let times = schedule
+            .time(iterations, |request, state| proved::make_move(nest, request, &tables, state));
+        let refused = refused_time(&tables, |request, state| {
+            proved::make_move(nest, request, &tables, state)
+        });
         ours = ours.least(times[0], times[1], refused, &schedule);
-        let times = schedule.time(iterations, |request, state| machine.make_move(request, &tables, state));
-        let refused = refused_time(&tables, |request, state| machine.make_move(request, &tables, state));
+        let times =
+            schedule.time(iterations, |request, state| machine.make_move(request, &tables, state));
+        let refused =
+            refused_time(&tables, |request, state| machine.make_move(request, &tables, state));
         theirs = theirs.least(times[0], times[1], refused, &schedule);
     }
     println!("\na complete run of {name} on {} processors by moves", tables.counts[3]);
@@ -120,9 +155,21 @@ fn print(schedule: &Schedule, ours: &Times, theirs: &Times) {
     println!("least times; the plain machine checks the nest once, the entry in every move\n");
     println!("{:<26} {:>12} {:>12} {:>7}", "", "entry", "plain", "ratio");
     let (Times(a), Times(b)) = (ours, theirs);
-    println!("{:<26} {:>12.1} {:>12.1} {:>7.2}", "whole run, microseconds", a[0] / 1e3, b[0] / 1e3, a[0] / b[0]);
+    println!(
+        "{:<26} {:>12.1} {:>12.1} {:>7.2}",
+        "whole run, microseconds",
+        a[0] / 1e3,
+        b[0] / 1e3,
+        a[0] / b[0]
+    );
     let moves = (allowed + refused + deliveries) as f64;
-    println!("{:<26} {:>12.1} {:>12.1} {:>7.2}", "a move, nanoseconds", a[0] / moves, b[0] / moves, a[0] / b[0]);
+    println!(
+        "{:<26} {:>12.1} {:>12.1} {:>7.2}",
+        "a move, nanoseconds",
+        a[0] / moves,
+        b[0] / moves,
+        a[0] / b[0]
+    );
     for (k, what) in ["a compute", "a delivery", "a move refused for place"].iter().enumerate() {
         println!("{what:<26} {:>12.1} {:>12.1} {:>7.2}", a[k + 1], b[k + 1], a[k + 1] / b[k + 1]);
     }

@@ -8,8 +8,8 @@ use crate::svg::Element;
 const INDEX_WIDTH: f64 = 36.0;
 const INDEX_HEIGHT: f64 = 14.0;
 
-/// Where indices stand: left of the first column, above the first row. Their names stand further left
-/// where the first column's index reaches over the layer's corner.
+/// Where indices stand: left of the first column, above the first row. Their names stand further
+/// left where the first column's index reaches over the layer's corner.
 const LEFT: f64 = 6.0;
 const LEFT_OF_SMALL: f64 = 22.0;
 const ABOVE: f64 = 6.0;
@@ -75,7 +75,8 @@ fn layer_title(grid: &Grid, corner: Point, above: f64, index: i64) -> Element {
         .with("font-weight", "bold")
 }
 
-/// The least of 1, 2, 5, 10, 20, 50 .. that is at least as great: every so many indices are written.
+/// The least of 1, 2, 5, 10, 20, 50 .. that is at least as great: every so many indices are
+/// written.
 fn stride(least: f64) -> usize {
     let powers = (0..).map(|power| 10_usize.pow(power));
     let mut strides = powers.flat_map(|power| [power, 2 * power, 5 * power]);

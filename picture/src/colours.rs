@@ -3,8 +3,8 @@
 /// Red, green and blue, from 0 to 255.
 pub type Colour = [u8; 3];
 
-/// Eight hues that the colour-blind tell apart (Okabe and Ito's, with grey for black), the strongest
-/// contrasts first.
+/// Eight hues that the colour-blind tell apart (Okabe and Ito's, with grey for black), the
+/// strongest contrasts first.
 const HUES: [Colour; 8] = [
     [86, 180, 233],
     [230, 159, 0],

@@ -1,8 +1,9 @@
 //! Where each iteration stands in the picture.
 //!
-//! A layer is a grid with a row for each index of the loop before the innermost and a column for each
-//! index of the innermost one. A nest of three loops has a layer for each outermost index; fewer loops
-//! make one layer, one loop a single row. Layers stand side by side, in as many bands as are needed.
+//! A layer is a grid with a row for each index of the loop before the innermost and a column for
+//! each index of the innermost one. A nest of three loops has a layer for each outermost index;
+//! fewer loops make one layer, one loop a single row. Layers stand side by side, in as many bands
+//! as are needed.
 
 use crate::plan::Plan;
 
@@ -21,20 +22,29 @@ pub struct Place {
     pub column: usize,
 }
 
-/// Up to this many iterations are labelled, if no layer has more rows or columns than this. Others are
-/// drawn small, without labels, and the smaller the longer their rows and columns are, so that 4096
-/// iterations (64 by 64, or 16 by 16 by 16) still fit a screen or two.
+/// Up to this many iterations are labelled, if their rows and columns are no longer than this with
+/// room for labels. Others are drawn small, without labels, and the smaller the longer their rows and
+/// columns are, so that 4096 iterations (64 by 64, or 16 by 16 by 16) still fit a screen or two.
 const MOST_LABELLED: usize = 400;
-const LONGEST_LABELLED: usize = 20;
+const LABELLED_LENGTH: f64 = 2000.0;
 
-/// How long a row or column of small iterations may become, as long as the iterations can be seen at
-/// all: the least and the greatest distance from one to the next.
+/// The distances from one labelled iteration to the next: the least and the greatest in one layer;
+/// across and down where there are layers, with room between the rows for the lines that lead from
+/// layer to layer.
+const LABELLED_DISTANCES: (f64, f64) = (54.0, 72.0);
+const LAYERED_DISTANCES: (f64, f64) = (56.0, 80.0);
+
+/// How long a row or column of small iterations may become, as long as the iterations can be seen
+/// at all: the least and the greatest distance from one to the next.
 const SMALL_LENGTH: f64 = 1000.0;
 const SMALL_DISTANCES: (f64, f64) = (3.0, 14.0);
 
 /// How wide a band of layers may become, and how narrow a layer may be, for its title.
 const BAND: f64 = 1100.0;
-const NARROWEST_LAYER: f64 = 90.0;
+const NARROWEST_LAYER: f64 = 120.0;
+/// Room on the right of a layer and below it where there are several bands, for the lines that lead
+/// from band to band: they cross no title and no index there.
+const LANE: f64 = 14.0;
 
 /// Room beside a layer for the indices of its rows, and above it for those of its columns.
 const LEFT_OF_LAYER: f64 = 40.0;
@@ -58,6 +68,8 @@ pub struct Grid {
     /// The least index in each direction.
     pub lower: [i64; 3],
     layers_in_band: usize,
+    /// The room for lines from band to band; 0 where there is one band.
+    lane: f64,
     places: Vec<Place>,
 }
 
@@ -66,14 +78,16 @@ impl Grid {
         let lower = with_three_loops(&plan.nest.lower, 0);
         let upper = with_three_loops(&plan.nest.upper, 0);
         let extents = [0, 1, 2].map(|k| (upper[k] - lower[k] + 1) as usize);
-        let longest = extents[1].max(extents[2]);
-        let labelled = plan.entries.len() <= MOST_LABELLED && longest <= LONGEST_LABELLED;
         let layered = plan.nest.depth == 3;
-        let (side, across, down) = measures(labelled, layered, longest);
+        let labelled = plan.entries.len() <= MOST_LABELLED && labels_fit(layered, extents);
+        let (side, across, down) = measures(labelled, layered, extents[1].max(extents[2]));
         let places = plan.iterations.points.iter().map(|point| place_of(point, lower)).collect();
-        let layers_in_band = (BAND / layer_width(across, extents[2])) as usize;
-        let layers_in_band = layers_in_band.clamp(1, extents[0]);
-        Grid { side, across, down, labelled, layered, extents, lower, layers_in_band, places }
+        let in_band = |lane: f64| {
+            ((BAND / (layer_width(across, extents[2]) + lane)) as usize).clamp(1, extents[0])
+        };
+        let lane = if in_band(0.0) < extents[0] { LANE } else { 0.0 };
+        let layers_in_band = in_band(lane);
+        Grid { side, across, down, labelled, layered, extents, lower, layers_in_band, lane, places }
     }
 
     pub fn place(&self, rank: usize) -> Place {
@@ -108,16 +122,29 @@ impl Grid {
     }
 
     fn layer_width(&self) -> f64 {
-        layer_width(self.across, self.extents[2])
+        layer_width(self.across, self.extents[2]) + self.lane
     }
 
     fn layer_height(&self) -> f64 {
-        self.above_layer() + self.down * self.extents[1] as f64
+        self.above_layer() + self.down * self.extents[1] as f64 + self.lane
+    }
+
+    pub fn band(&self, layer: usize) -> usize {
+        layer / self.layers_in_band
+    }
+
+    /// The middle of the lane on the right of a layer, across, and of the one below it, down.
+    pub fn lanes(&self, layer: usize) -> Point {
+        let corner = self.corner(layer);
+        Point {
+            x: corner.x - LEFT_OF_LAYER + self.layer_width() - self.lane / 2.0,
+            y: corner.y - self.above_layer() + self.layer_height() - self.lane / 2.0,
+        }
     }
 
     /// The first layer of a band.
     pub fn starts_band(&self, layer: usize) -> bool {
-        layer % self.layers_in_band == 0
+        layer.is_multiple_of(self.layers_in_band)
     }
 
     fn above_layer(&self) -> f64 {
@@ -130,15 +157,27 @@ impl Grid {
     }
 }
 
-/// The side of a square, and the distances from column to column and from row to row. Between the rows
-/// of layers there is more room, for the lines that lead from layer to layer.
+/// Whether rows and columns of these extents have room for labels.
+fn labels_fit(layered: bool, extents: [usize; 3]) -> bool {
+    let (across, down) = match layered {
+        true => LAYERED_DISTANCES,
+        false => (LABELLED_DISTANCES.0, LABELLED_DISTANCES.0),
+    };
+    across * extents[2] as f64 <= LABELLED_LENGTH && down * extents[1] as f64 <= LABELLED_LENGTH
+}
+
+/// The side of a square, and the distances from column to column and from row to row, where the
+/// longest row or column has so many.
 fn measures(labelled: bool, layered: bool, longest: usize) -> (f64, f64, f64) {
+    let within = |length: f64, (least, greatest)| (length / longest as f64).clamp(least, greatest);
     match (labelled, layered) {
-        (true, false) => (42.0, 72.0, 72.0),
-        (true, true) => (40.0, 56.0, 80.0),
+        (true, false) => {
+            let distance = within(LABELLED_LENGTH, LABELLED_DISTANCES);
+            (42.0, distance, distance)
+        }
+        (true, true) => (40.0, LAYERED_DISTANCES.0, LAYERED_DISTANCES.1),
         (false, _) => {
-            let (least, greatest) = SMALL_DISTANCES;
-            let distance = (SMALL_LENGTH / longest as f64).clamp(least, greatest);
+            let distance = within(SMALL_LENGTH, SMALL_DISTANCES);
             (0.6 * distance, distance, if layered { 1.4 * distance } else { distance })
         }
     }

@@ -1,5 +1,5 @@
-//! Draws plans: a sheet and its listing become an SVG text. The picture shows what the listing says;
-//! only the sources of an iteration are worked out here, from the sheet.
+//! Draws plans: a sheet and its listing become an SVG text. The picture shows what the listing
+//! says; only the sources of an iteration are worked out here, from the sheet.
 //!
 //! | file | holds |
 //! |---|---|

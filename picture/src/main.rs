@@ -2,8 +2,8 @@
 //!
 //!     picture SHEET LISTING [SHEET LISTING ..]
 //!
-//! Each plan is named after its sheet's file. The exit status is 1, and nothing is printed, if a sheet
-//! and its listing are no plan; 2 if the call itself is wrong.
+//! Each plan is named after its sheet's file. The exit status is 1, and nothing is printed, if a
+//! sheet and its listing are no plan; 2 if the call itself is wrong.
 
 use std::io::{self, Write};
 use std::path::Path;
@@ -15,7 +15,7 @@ use picture::plan::{Complaint, Plan};
 
 fn main() -> ExitCode {
     let files: Vec<String> = env::args().skip(1).collect();
-    if files.is_empty() || files.len() % 2 != 0 {
+    if files.is_empty() || !files.len().is_multiple_of(2) {
         eprintln!("usage: picture/run SHEET ..");
         eprintln!("       picture/run --listed SHEET LISTING [SHEET LISTING ..]");
         return ExitCode::from(2);

@@ -41,8 +41,8 @@ pub struct Plan {
 }
 
 impl Plan {
-    /// Reads a sheet and its listing, or says why they are no plan. Each of the five counts must fit
-    /// the lines below it, so that the listing of another sheet is not drawn by mistake.
+    /// Reads a sheet and its listing, or says why they are no plan. Each of the five counts must
+    /// fit the lines below it, so that the listing of another sheet is not drawn by mistake.
     pub fn read(name: &str, sheet: &[u8], listing: &[u8]) -> Result<Plan, Complaint> {
         let refused = |number| format!("the sheet is refused with number {number}");
         let nest = text::read(sheet).map_err(refused)?;

@@ -3,7 +3,8 @@
 use crate::grid::{Grid, Point};
 use crate::svg::short;
 
-/// A line from one square to another: straight, or bent towards one or two points.
+/// A line from one square to another: straight, bent towards one or two points, or through more points
+/// than that, straight from each to the next.
 #[derive(Clone, Debug, PartialEq)]
 pub struct Route {
     pub from: Point,
@@ -12,9 +13,10 @@ pub struct Route {
 }
 
 impl Route {
-    /// The line from a source to a target. Inside a layer it is straight, unless other iterations stand
-    /// exactly between the two; then it bows around them. From layer to layer it is an arch over the
-    /// row, or a sweep from row to row.
+    /// The line from a source to a target. Inside a layer it is straight, unless other iterations
+    /// stand exactly between the two; then it bows around them. From layer to layer it is an arch
+    /// over the row, or a sweep from row to row; from band to band of layers it takes the lanes between
+    /// them.
     pub fn new(grid: &Grid, source: usize, target: usize) -> Route {
         let (one, other) = (grid.place(source), grid.place(target));
         let (from, to) = (grid.centre(source), grid.centre(target));
@@ -22,6 +24,9 @@ impl Route {
             let rows = one.row.abs_diff(other.row);
             let columns = one.column.abs_diff(other.column);
             return bow(grid, from, to, common_divisor(rows, columns) > 1);
+        }
+        if grid.band(one.layer) != grid.band(other.layer) {
+            return detour(grid, from, to, grid.lanes(one.layer), grid.lanes(other.layer));
         }
         if from.y == to.y {
             // Arches of one row rise to different heights, so that they can be told apart.
@@ -33,7 +38,7 @@ impl Route {
 
     /// The line as the data of an SVG path.
     pub fn written(&self) -> String {
-        let curve = ["L", "Q", "C"][self.bends.len()];
+        let curve = ["L", "Q", "C"].get(self.bends.len()).unwrap_or(&"L");
         let points = self.bends.iter().chain([&self.to]);
         let points: Vec<String> = points.map(|&point| written_point(point)).collect();
         format!("M{} {curve}{}", written_point(self.from), points.join(" "))
@@ -114,4 +119,24 @@ fn sweep(grid: &Grid, from: Point, to: Point) -> Route {
     let bend = downwards * (to.y - from.y).abs().max(grid.down - grid.side) / 2.0;
     let bends = vec![Point { x: from.x, y: from.y + bend }, Point { x: to.x, y: to.y - bend }];
     Route { from, bends, to }
+}
+
+/// A line from a square down to one in a later band: between the columns to the lane below its layer,
+/// along that to the lane on the right of the target's layer, and from there over the target's row.
+fn detour(grid: &Grid, from: Point, to: Point, source_lanes: Point, target_lanes: Point) -> Route {
+    let edge = grid.side / 2.0 + clearance(grid);
+    let beside = grid.side / 4.0;
+    let (below, above) = (from.y + grid.down / 2.0, to.y - grid.down / 2.0);
+    let start = Point { x: from.x + beside, y: from.y + edge };
+    let end = Point { x: to.x + beside, y: to.y - edge };
+    let between_columns = from.x + grid.across / 2.0;
+    let bends = vec![
+        Point { x: start.x, y: below },
+        Point { x: between_columns, y: below },
+        Point { x: between_columns, y: source_lanes.y },
+        Point { x: target_lanes.x, y: source_lanes.y },
+        Point { x: target_lanes.x, y: above },
+        Point { x: end.x, y: above },
+    ];
+    Route { from: start, bends, to: end }
 }

@@ -52,14 +52,16 @@ pub fn read(text: &[u8]) -> Result<Nest, Refusal> {
     Ok(nest)
 }
 
-/// The text of a nest, from the buffer's first byte on; answers its length. The bytes behind it stay. Refusals 2 to 14.
+/// The text of a nest, from the buffer's first byte on; answers its length. The bytes behind it
+/// stay. Refusals 2 to 14.
 pub fn write(nest: &Nest, buffer: &mut [u8]) -> Result<usize, Refusal> {
     let mut length = 0;
     Refusal::of(exported::write(nest, buffer, &mut length))?;
     Ok(length)
 }
 
-/// Where the row of an outermost index lies in a table of so many entries. Refusals 2 to 14, then 19.
+/// Where the row of an outermost index lies in a table of so many entries. Refusals 2 to 14, then
+/// 19.
 pub fn locate(nest: &Nest, entries: usize, index: i64) -> Result<Range<usize>, Refusal> {
     let mut span = [0; 2];
     Refusal::of(exported::locate(nest, entries, index, &mut span))?;
@@ -73,29 +75,38 @@ pub fn row<'a, T>(nest: &Nest, table: &'a [T], index: i64) -> Result<&'a [T], Re
     Ok(table.get(span).unwrap_or_default())
 }
 
-/// The values of the sequential loop, in loop order. The entries behind the last iteration stay. Refusals 2 to 14.
+/// The values of the sequential loop, in loop order. The entries behind the last iteration stay.
+/// Refusals 2 to 14.
 pub fn fill(nest: &Nest, values: &mut [u16]) -> Result<(), Refusal> {
     Refusal::of(exported::fill(nest, values))
 }
 
-/// The plan of a nest: the step, block, processor and value of each iteration, in loop order; answers its counts. The entries behind the last iteration stay.
-/// Refusals 2 to 14.
-pub fn plan(nest: &Nest, steps: &mut [u32], blocks: &mut [u16], processors: &mut [u8], values: &mut [u16]) -> Result<Counts, Refusal> {
+/// The plan of a nest: the step, block, processor and value of each iteration, in loop order;
+/// answers its counts. The entries behind the last iteration stay. Refusals 2 to 14.
+pub fn plan(
+    nest: &Nest,
+    steps: &mut [u32],
+    blocks: &mut [u16],
+    processors: &mut [u8],
+    values: &mut [u16],
+) -> Result<Counts, Refusal> {
     let mut counts = [0; 5];
     Refusal::of(exported::plan(nest, steps, blocks, processors, values, &mut counts))?;
     let [iterations, steps, blocks, processors, messages] = counts;
     Ok(Counts { iterations, steps, blocks, processors, messages })
 }
 
-/// The listing of the plan of a text's nest, from the buffer's first byte on; answers its length. The bytes behind it stay. Refusals 1 to 14.
+/// The listing of the plan of a text's nest, from the buffer's first byte on; answers its length.
+/// The bytes behind it stay. Refusals 1 to 14.
 pub fn list(text: &[u8], buffer: &mut [u8]) -> Result<usize, Refusal> {
     let mut length = 0;
     Refusal::of(exported::list(text, buffer, &mut length))?;
     Ok(length)
 }
 
-/// Makes one move on the step and processor tables of a plan and on a state, all of any content. A fresh state has 0 in every byte of `done` and `delivered`.
-/// Refusals 2 to 14, then 18, 17, 15 or 16.
+/// Makes one move on the step and processor tables of a plan and on a state, all of any content. A
+/// fresh state has 0 in every byte of `done` and `delivered`. Refusals 2 to 14, then 18, 17, 15 or
+/// 16.
 pub fn make_move(
     nest: &Nest,
     request: Move,
@@ -110,7 +121,9 @@ pub fn make_move(
         Move::Deliver { rank, dependence } => [exported::DELIVER, rank, dependence],
     };
     let mut made = [0; 2];
-    Refusal::of(exported::make_move(nest, numbers, steps, processors, values, done, delivered, &mut made))?;
+    Refusal::of(exported::make_move(
+        nest, numbers, steps, processors, values, done, delivered, &mut made,
+    ))?;
     let [rank, second] = made;
     Ok(match request {
         Move::Compute { .. } => Made::Computed { rank, value: second as u16 },

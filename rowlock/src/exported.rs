@@ -1,5 +1,6 @@
-//! The exported functions as they are, made safe: slices for pointers with lengths. Each answers 0 or the number of a refusal, and stores what it answers beside
-//! that, zeros where it refuses. `include/rowlock.h` says what each does.
+//! The exported functions as they are, made safe: slices for pointers with lengths. Each answers 0
+//! or the number of a refusal, and stores what it answers beside that, zeros where it refuses.
+//! `c/rowlock.h` says what each does.
 
 #![allow(unsafe_code)]
 #![allow(clippy::too_many_arguments)]
@@ -10,7 +11,7 @@ use crate::Nest;
 pub const COMPUTE: usize = 1;
 pub const DELIVER: usize = 2;
 
-/// The declarations of `include/rowlock.h`.
+/// The declarations of `c/rowlock.h`.
 mod library {
     use crate::Nest;
 
@@ -18,8 +19,18 @@ mod library {
         pub fn rowlock_check(nest: *const Nest) -> u8;
         pub fn rowlock_inspect(nest: *const Nest, iterations: *mut usize) -> u8;
         pub fn rowlock_read(text: *const u8, text_length: usize, nest: *mut Nest) -> u8;
-        pub fn rowlock_write(nest: *const Nest, buffer: *mut u8, buffer_length: usize, length: *mut usize) -> u8;
-        pub fn rowlock_locate(nest: *const Nest, entries: usize, index: i64, span: *mut [usize; 2]) -> u8;
+        pub fn rowlock_write(
+            nest: *const Nest,
+            buffer: *mut u8,
+            buffer_length: usize,
+            length: *mut usize,
+        ) -> u8;
+        pub fn rowlock_locate(
+            nest: *const Nest,
+            entries: usize,
+            index: i64,
+            span: *mut [usize; 2],
+        ) -> u8;
         pub fn rowlock_fill(nest: *const Nest, values: *mut u16, values_length: usize) -> u8;
         pub fn rowlock_plan(
             nest: *const Nest,
@@ -33,7 +44,13 @@ mod library {
             values_length: usize,
             counts: *mut [usize; 5],
         ) -> u8;
-        pub fn rowlock_list(text: *const u8, text_length: usize, buffer: *mut u8, buffer_length: usize, length: *mut usize) -> u8;
+        pub fn rowlock_list(
+            text: *const u8,
+            text_length: usize,
+            buffer: *mut u8,
+            buffer_length: usize,
+            length: *mut usize,
+        ) -> u8;
         pub fn rowlock_move(
             nest: *const Nest,
             kind: usize,
@@ -65,7 +82,8 @@ pub fn inspect(nest: &Nest, iterations: &mut usize) -> u8 {
 }
 
 pub fn read(text: &[u8], nest: &mut Nest) -> u8 {
-    // SAFETY: pointer and length are the slice's; the 45 numbers are lent alone, and any numbers are a `Nest`.
+    // SAFETY: pointer and length are the slice's; the 45 numbers are lent alone, and any numbers
+    // are a `Nest`.
     unsafe { library::rowlock_read(text.as_ptr(), text.len(), nest) }
 }
 
@@ -84,8 +102,16 @@ pub fn fill(nest: &Nest, values: &mut [u16]) -> u8 {
     unsafe { library::rowlock_fill(nest, values.as_mut_ptr(), values.len()) }
 }
 
-pub fn plan(nest: &Nest, steps: &mut [u32], blocks: &mut [u16], processors: &mut [u8], values: &mut [u16], counts: &mut [usize; 5]) -> u8 {
-    // SAFETY: each pointer with its length is a slice's, `counts` has the five places that are written, and all are lent alone.
+pub fn plan(
+    nest: &Nest,
+    steps: &mut [u32],
+    blocks: &mut [u16],
+    processors: &mut [u8],
+    values: &mut [u16],
+    counts: &mut [usize; 5],
+) -> u8 {
+    // SAFETY: each pointer with its length is a slice's, `counts` has the five places that are
+    // written, and all are lent alone.
     unsafe {
         library::rowlock_plan(
             nest,
@@ -104,7 +130,9 @@ pub fn plan(nest: &Nest, steps: &mut [u32], blocks: &mut [u16], processors: &mut
 
 pub fn list(text: &[u8], buffer: &mut [u8], length: &mut usize) -> u8 {
     // SAFETY: each pointer with its length is a slice's, and all that is written is lent alone.
-    unsafe { library::rowlock_list(text.as_ptr(), text.len(), buffer.as_mut_ptr(), buffer.len(), length) }
+    unsafe {
+        library::rowlock_list(text.as_ptr(), text.len(), buffer.as_mut_ptr(), buffer.len(), length)
+    }
 }
 
 pub fn make_move(
@@ -117,7 +145,8 @@ pub fn make_move(
     delivered: &mut [u8],
     made: &mut [usize; 2],
 ) -> u8 {
-    // SAFETY: each pointer with its length is a slice's, `made` has the two places that are written, and all that is written is lent alone.
+    // SAFETY: each pointer with its length is a slice's, `made` has the two places that are
+    // written, and all that is written is lent alone.
     unsafe {
         library::rowlock_move(
             nest,

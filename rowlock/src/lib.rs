@@ -1,7 +1,9 @@
-//! The verified loop planner for callers in Rust: safe functions over the static library that `rt staticlib exports` proves and writes.
+//! The verified loop planner for callers in Rust: safe functions over the static library that `rt
+//! staticlib rowlock` proves and writes.
 //!
-//! Every function takes any numbers, any texts and slices of any length, and answers what was asked for or one [`Refusal`]. A refused call changes nothing that is
-//! lent. Nothing here panics, allocates or copies a table.
+//! Every function takes any numbers, any texts and slices of any length, and answers what was asked
+//! for or one [`Refusal`]. A refused call changes nothing that is lent. Nothing here panics,
+//! allocates or copies a table.
 //!
 //! ```
 //! let text = b"     1     1     0\n     0     3\n     1\n     1\n     5     2\n";
@@ -28,7 +30,9 @@ pub mod exported;
 mod nest;
 mod refusal;
 
-pub use entries::{check, fill, inspect, list, locate, make_move, plan, read, row, write, Counts, Made, Move};
+pub use entries::{
+    check, fill, inspect, list, locate, make_move, plan, read, row, write, Counts, Made, Move,
+};
 pub use nest::Nest;
 pub use refusal::Refusal;
 

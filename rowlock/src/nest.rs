@@ -1,7 +1,8 @@
 //! A loop nest as numbers.
 
-/// A loop nest: 45 numbers, any of which may be anything. Of each array the first `depth` or `count` places are a part of the nest; the others are ignored.
-/// `include/rowlock.h` has the same struct.
+/// A loop nest: 45 numbers, any of which may be anything. Of each array the first `depth` or
+/// `count` places are a part of the nest; the others are ignored. `c/rowlock.h` has the same
+/// struct.
 #[repr(C)]
 #[derive(Clone, Copy, Debug, Default, PartialEq, Eq, Hash)]
 pub struct Nest {

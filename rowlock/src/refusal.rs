@@ -79,20 +79,29 @@ mod tests {
 
     /// Number, name and meaning of each refusal, in order.
     fn refusals() -> Vec<(u8, &'static str, &'static str)> {
-        (1..=19).map(Refusal).map(|refusal| (refusal.number(), refusal.words().0, refusal.words().1)).collect()
+        (1..=19)
+            .map(Refusal)
+            .map(|refusal| (refusal.number(), refusal.words().0, refusal.words().1))
+            .collect()
     }
 
     #[test]
     fn refusals_are_those_of_the_table_in_readme() {
-        let (_, table) = include_str!("../../README.md").split_once("| number | name | met when |\n|---|---|---|\n").expect("a table");
-        let rows: Vec<String> = table.lines().take_while(|line| line.starts_with('|')).map(str::to_string).collect();
-        let ours: Vec<String> = refusals().iter().map(|(number, name, meaning)| format!("| {number} | `{name}` | {meaning} |")).collect();
+        let (_, table) = include_str!("../../README.md")
+            .split_once("| number | name | met when |\n|---|---|---|\n")
+            .expect("a table");
+        let rows: Vec<String> =
+            table.lines().take_while(|line| line.starts_with('|')).map(str::to_string).collect();
+        let ours: Vec<String> = refusals()
+            .iter()
+            .map(|(number, name, meaning)| format!("| {number} | `{name}` | {meaning} |"))
+            .collect();
         assert_eq!(rows, ours);
     }
 
     #[test]
     fn refusals_limits_and_kinds_are_those_of_the_header() {
-        let header = include_str!("../../include/rowlock.h");
+        let header = include_str!("../../c/rowlock.h");
         for (number, name, _) in refusals() {
             assert!(header.contains(&format!("    ROWLOCK_{name} = {number}")), "{name}");
         }
@@ -106,8 +115,10 @@ mod tests {
         for (name, limit) in limits {
             assert!(header.contains(&format!("#define ROWLOCK_{name} {limit}\n")), "{name}");
         }
-        for (name, kind) in [("COMPUTE", crate::exported::COMPUTE), ("DELIVER", crate::exported::DELIVER)] {
-            assert!(header.contains(&format!("    ROWLOCK_{name} = {kind}")), "{name}");
+        for (name, kind) in
+            [("COMPUTE", crate::exported::COMPUTE), ("DELIVER", crate::exported::DELIVER)]
+        {
+            assert!(header.contains(&format!(" ROWLOCK_{name} = {kind}")), "{name}");
         }
     }
 

@@ -3,16 +3,14 @@
 //! fixes them.
 //!
 //! Its only purpose is to be compared, byte for byte, with the proved planner, with which it shares
-//! no code and no language. So it follows document 01 sentence by sentence, computes with exact rational
-//! numbers, and prefers the simplest algorithm to the fastest one.
+//! no code and no language. So it follows document 01 sentence by sentence, computes with exact
+//! rational numbers, and prefers the simplest algorithm to the fastest one.
 //!
 //! Some of document 01's titles use words that this code does not: "The sheet" is about the loop
 //! nest, "clock span" about the time vector, "offset span" about dependences, "weight span" about
 //! boundary value and weights, "Card" about processors, "Card message" about messages, "Words from
 //! the rack" about the numbers that calls answer.
 
-pub mod feeding;
-pub mod generate;
 pub mod linear;
 pub mod listing;
 pub mod machine;

@@ -3,8 +3,8 @@
 use crate::plan::Plan;
 use crate::text::{self, write_line};
 
-/// What the planning program prints for a text: the listing of its plan, or one line with the number
-/// of its refusal.
+/// What the planning program prints for a text: the listing of its plan, or one line with the
+/// number of its refusal.
 pub fn listing(text: &[u8]) -> String {
     match text::read(text) {
         Err(number) => write_line(&[i64::from(number)]),

@@ -8,8 +8,8 @@ use crate::plan::Plan;
 use crate::refusal::*;
 use crate::sequential::{source_values, Rule};
 
-/// A move: a processor computes its next iteration, or the message for an iteration (by rank) along a
-/// dependence (by number) is delivered.
+/// A move: a processor computes its next iteration, or the message for an iteration (by rank) along
+/// a dependence (by number) is delivered.
 #[derive(Clone, Copy, Debug, PartialEq, Eq)]
 pub enum Move {
     Compute { processor: usize },
@@ -74,8 +74,8 @@ impl<'a, R: Rule> Machine<'a, R> {
     }
 
     /// Makes one move on the given tables and state and answers its number, whatever the tables and
-    /// the state hold. Short buffers (14) are refused first, then places that do not exist (18), then
-    /// what the move itself runs into (17, 15 or 16).
+    /// the state hold. Short buffers (14) are refused first, then places that do not exist (18),
+    /// then what the move itself runs into (17, 15 or 16).
     pub fn execute(&self, tables: &Tables, state: &mut State, request: Move) -> Number {
         if self.has_short_buffer(tables, state) {
             return SHORT_BUFFER;
@@ -98,8 +98,8 @@ impl<'a, R: Rule> Machine<'a, R> {
         lengths.iter().any(|&length| length < self.iterations.count())
     }
 
-    /// Computes the processor's earliest iteration that is not done, the smaller rank first within a
-    /// step, provided that nothing it reads is outstanding.
+    /// Computes the processor's earliest iteration that is not done, the smaller rank first within
+    /// a step, provided that nothing it reads is outstanding.
     fn compute(&self, tables: &Tables, state: &mut State, processor: usize) -> Number {
         if processor >= self.nest.processor_count() {
             return NO_SUCH_PLACE;
@@ -120,8 +120,9 @@ impl<'a, R: Rule> Machine<'a, R> {
         DONE
     }
 
-    /// Whether an iteration's source along a dependence can be read on the processor. One outside the
-    /// nest always can; one on the same processor must be done, and one elsewhere needs its message.
+    /// Whether an iteration's source along a dependence can be read on the processor. One outside
+    /// the nest always can; one on the same processor must be done, and one elsewhere needs its
+    /// message.
     fn is_there(
         &self,
         tables: &Tables,
@@ -185,8 +186,8 @@ impl<'a> ReferenceMachine<'a> {
         }
     }
 
-    /// Makes one move and answers its number: 0 for an allowed move. A refused move leaves both sets
-    /// as they were.
+    /// Makes one move and answers its number: 0 for an allowed move. A refused move leaves both
+    /// sets as they were.
     pub fn execute(&mut self, request: Move) -> Number {
         match request {
             Move::Compute { processor } => self.compute(processor),
@@ -194,8 +195,8 @@ impl<'a> ReferenceMachine<'a> {
         }
     }
 
-    /// Computes the first missing iteration of a processor, by step and then by rank. Refused if there
-    /// is no such processor (18), it has nothing missing (17), or the iteration waits (15).
+    /// Computes the first missing iteration of a processor, by step and then by rank. Refused if
+    /// there is no such processor (18), it has nothing missing (17), or the iteration waits (15).
     fn compute(&mut self, processor: usize) -> Number {
         if processor >= self.nest.processor_count() {
             return NO_SUCH_PLACE;
@@ -217,8 +218,8 @@ impl<'a> ReferenceMachine<'a> {
         DONE
     }
 
-    /// Whether an iteration waits along a dependence: for a message from another processor, or for a
-    /// source that its own processor has yet to compute.
+    /// Whether an iteration waits along a dependence: for a message from another processor, or for
+    /// a source that its own processor has yet to compute.
     fn waits_for(&self, rank: usize, dependence: usize) -> bool {
         let Some(source) = self.source(rank, dependence) else {
             return false;
@@ -234,8 +235,8 @@ impl<'a> ReferenceMachine<'a> {
         self.plan.iterations.source(rank, &self.nest.dependences[dependence])
     }
 
-    /// Delivers a message. Refused if the iteration or the dependence does not exist (18), and if the
-    /// two make no message, or one that is not ready or was delivered before (16).
+    /// Delivers a message. Refused if the iteration or the dependence does not exist (18), and if
+    /// the two make no message, or one that is not ready or was delivered before (16).
     fn deliver(&mut self, rank: usize, dependence: usize) -> Number {
         if rank >= self.plan.iterations.count() || dependence >= self.nest.dependences.len() {
             return NO_SUCH_PLACE;
@@ -255,8 +256,7 @@ impl<'a> ReferenceMachine<'a> {
 #[cfg(test)]
 mod tests {
     use super::*;
-    use crate::generate::{self, Random};
-    use crate::sequential::{sequential_values, weighted_sum};
+    use crate::sequential::weighted_sum;
     use crate::text;
 
     const P2: &str =
@@ -269,126 +269,6 @@ mod tests {
 
     fn deliver(rank: usize, dependence: usize) -> Move {
         Move::Deliver { rank, dependence }
-    }
-
-    /// Accepted nests of at most the given number of iterations.
-    fn small_nests(most: i64) -> Vec<LoopNest> {
-        (0..500)
-            .filter_map(|index| text::read(&generate::case(5, index).text).ok())
-            .filter(|nest| nest.iteration_count() <= most)
-            .collect()
-    }
-
-    /// Every move that the reference machine could ever allow.
-    fn every_move(plan: &Plan) -> Vec<Move> {
-        let computes = plan.mapping.processors.iter().map(|&processor| compute(processor));
-        let delivers = plan.mapping.messages.iter().map(|&(rank, number)| deliver(rank, number));
-        computes.chain(delivers).collect()
-    }
-
-    /// Goes round all moves until a whole round allows none; answers how many were allowed.
-    fn run_round_robin(moves: &[Move], mut execute: impl FnMut(Move) -> Number) -> usize {
-        let mut allowed = 0;
-        loop {
-            let before_round = allowed;
-            allowed += moves.iter().filter(|&&request| execute(request) == DONE).count();
-            if allowed == before_round {
-                return allowed;
-            }
-        }
-    }
-
-    #[test]
-    fn complete_runs_end_in_the_sequential_table() {
-        let nests = small_nests(120);
-        assert!(nests.len() > 100);
-        for nest in &nests {
-            let plan = Plan::new(nest);
-            let tables = Tables::of_plan(&plan);
-            let machine = Machine::new(nest, weighted_sum(nest)).ok().unwrap();
-            let mut state = State::fresh(vec![-1; plan.iterations.count()]);
-            let moves = every_move(&plan);
-            let allowed =
-                run_round_robin(&moves, |request| machine.execute(&tables, &mut state, request));
-            assert_eq!(allowed, plan.iterations.count() + plan.mapping.messages.len());
-            assert_eq!(state.values, plan.values);
-
-            let mut reference = ReferenceMachine::new(nest);
-            assert_eq!(run_round_robin(&moves, |request| reference.execute(request)), allowed);
-        }
-    }
-
-    #[test]
-    fn complete_run_under_another_rule() {
-        for nest in &small_nests(60) {
-            let rule = |point: &[i64], rank: usize, sources: &[i64]| {
-                let places: i64 = point.iter().sum();
-                sources.iter().fold(places - rank as i64, |sum, source| (3 * sum + source) % 9973)
-            };
-            let plan = Plan::new(nest);
-            let machine = Machine::new(nest, rule).ok().unwrap();
-            let tables = Tables::of_plan(&plan);
-            let mut state = State::fresh(vec![0; plan.iterations.count()]);
-            run_round_robin(&every_move(&plan), |r| machine.execute(&tables, &mut state, r));
-            assert_eq!(state.values, sequential_values(nest, &plan.iterations, rule));
-        }
-    }
-
-    /// A move of any kind, places that do not exist included.
-    fn any_move(random: &mut Random, plan: &Plan, nest: &LoopNest) -> Move {
-        let count = plan.iterations.count() as i64;
-        let messages = &plan.mapping.messages;
-        match random.between(0, 3) {
-            0 => compute(plan.mapping.processors[random.between(0, count - 1) as usize]),
-            1 => compute(random.between(0, nest.processor_count() as i64) as usize),
-            2 if !messages.is_empty() => {
-                let (rank, number) =
-                    messages[random.between(0, messages.len() as i64 - 1) as usize];
-                deliver(rank, number)
-            }
-            _ => deliver(
-                random.between(0, count) as usize,
-                random.between(0, nest.dependence_count) as usize,
-            ),
-        }
-    }
-
-    /// The state that document 01 gives after a list of moves: done bytes and delivered bits are those
-    /// of the reference machine, computed values the sequential loop's, all others as at the start.
-    fn expected_state(reference: &ReferenceMachine, plan: &Plan, start: &State) -> State {
-        let mut expected = start.clone();
-        for &rank in &reference.computed {
-            expected.values[rank] = plan.values[rank];
-            expected.done[rank] = 1;
-        }
-        for &(rank, number) in &reference.delivered {
-            expected.delivered[rank] |= 1 << number;
-        }
-        expected
-    }
-
-    #[test]
-    fn any_list_of_moves_is_answered_as_by_the_reference_machine() {
-        let mut random = Random::new(3);
-        for nest in &small_nests(40) {
-            let plan = Plan::new(nest);
-            let tables = Tables::of_plan(&plan);
-            let machine = Machine::new(nest, weighted_sum(nest)).ok().unwrap();
-            let mut reference = ReferenceMachine::new(nest);
-            let values =
-                (0..plan.iterations.count() as i64 + 2).map(|entry| 70000 + entry).collect();
-            let start = State::fresh(values);
-            let mut state = start.clone();
-            let mut allowed = 0;
-            for _ in 0..300 {
-                let request = any_move(&mut random, &plan, nest);
-                let answer = machine.execute(&tables, &mut state, request);
-                assert_eq!(answer, reference.execute(request));
-                assert_eq!(state, expected_state(&reference, &plan, &start));
-                allowed += usize::from(answer == DONE);
-            }
-            assert_eq!(allowed, reference.computed.len() + reference.delivered.len());
-        }
     }
 
     #[test]

@@ -40,8 +40,8 @@ impl Mapping {
     }
 }
 
-/// The directions, first to last: q, then b (one for each auxiliary vector), then the class. Each is
-/// the list of its values, block by block.
+/// The directions, first to last: q, then b (one for each auxiliary vector), then the class. Each
+/// is the list of its values, block by block.
 fn directions(block_groups: &[Group]) -> Vec<Vec<i64>> {
     let auxiliary_count = block_groups[0].b.len();
     let mut directions = vec![block_groups.iter().map(|group| group.q).collect()];
@@ -70,9 +70,9 @@ fn power_of_two(e: u32) -> i64 {
     2_i64.pow(e)
 }
 
-/// The bits of each direction, c in all or fewer: every round offers each direction one bit. A direction
-/// is passed over when one more bit would make more parts than its width has room for. A round that
-/// deals nothing is the last (document 01, "Card").
+/// The bits of each direction, c in all or fewer: every round offers each direction one bit. A
+/// direction is passed over when one more bit would make more parts than its width has room for. A
+/// round that deals nothing is the last (document 01, "Card").
 fn deal_bits(widths: &[i64], cube_dimension: i64) -> Vec<u32> {
     let mut bits: Vec<u32> = vec![0; widths.len()];
     let mut left_to_deal = cube_dimension;
@@ -100,8 +100,8 @@ fn gray_code(part: i64) -> i64 {
     part ^ (part >> 1)
 }
 
-/// A block's processor: the codes of its directions side by side in one number, the first direction's
-/// in the highest of the bits dealt.
+/// A block's processor: the codes of its directions side by side in one number, the first
+/// direction's in the highest of the bits dealt.
 fn processor_of_block(block: usize, directions: &[Vec<i64>], bits: &[u32]) -> usize {
     let mut processor = 0;
     for (values, &e) in directions.iter().zip(bits) {

@@ -38,8 +38,8 @@ pub fn inner_product(left: &[i64], right: &[i64]) -> i64 {
     left.iter().zip(right).map(|(a, b)| a * b).sum()
 }
 
-/// Whether a dependence does not point forward in loop order. Forward means a positive component after
-/// any leading zeros.
+/// Whether a dependence does not point forward in loop order. Forward means a positive component
+/// after any leading zeros.
 fn is_backward(dependence: &[i64]) -> bool {
     match dependence.iter().find(|&&component| component != 0) {
         None => true,
@@ -74,8 +74,8 @@ impl LoopNest {
         self.lower.iter().zip(&self.upper).map(|(lower, upper)| upper - lower + 1).product()
     }
 
-    /// The refusal of the nest given as numbers, if it has one: the smallest number whose condition is
-    /// met. Numbers have no form to judge, so 1 cannot come up.
+    /// The refusal of the nest given as numbers, if it has one: the smallest number whose condition
+    /// is met. Numbers have no form to judge, so 1 cannot come up.
     pub fn refusal(&self) -> Option<Number> {
         self.refusal_of_counts().or_else(|| self.refusal_of_lists())
     }

@@ -8,8 +8,8 @@ use crate::linear::{self, Vector};
 use crate::nest::{inner_product, Iterations, LoopNest};
 use crate::rational::Rational;
 
-/// A group of projected points, named by its class and its coordinates within the class: q along the
-/// grouping vector, b along each auxiliary vector.
+/// A group of projected points, named by its class and its coordinates within the class: q along
+/// the grouping vector, b along each auxiliary vector.
 #[derive(Clone, Debug, PartialEq, Eq, Hash)]
 pub struct Group {
     pub class: usize,
@@ -155,9 +155,9 @@ fn auxiliary_vectors(projected: &[Vector], grouping: Option<usize>) -> Vec<usize
     auxiliary
 }
 
-/// The different things in a list, each once, in the order of their first places; and for each place
-/// of the list the number of its thing, from 0. Of a list in loop order, this numbers things by the
-/// first iteration that has them.
+/// The different things in a list, each once, in the order of their first places; and for each
+/// place of the list the number of its thing, from 0. Of a list in loop order, this numbers things
+/// by the first iteration that has them.
 fn numbered_by_first<T: Clone + Eq + Hash>(list: &[T]) -> (Vec<T>, Vec<usize>) {
     let mut different: Vec<T> = Vec::new();
     let mut number_of: HashMap<T, usize> = HashMap::new();
@@ -173,9 +173,10 @@ fn numbered_by_first<T: Clone + Eq + Hash>(list: &[T]) -> (Vec<T>, Vec<usize>) {
     (different, numbers)
 }
 
-/// The seed of each class, and the class of each projected point (document 01, "Class"). Points share
-/// a class if whole steps along the chosen vectors lead from one to the other. The points come in the
-/// order of their first iterations: so do the classes, and a class's first point is its seed.
+/// The seed of each class, and the class of each projected point (document 01, "Class"). Points
+/// share a class if whole steps along the chosen vectors lead from one to the other. The points
+/// come in the order of their first iterations: so do the classes, and a class's first point is its
+/// seed.
 fn classes(chosen: &[Vector], projected_points: &[Vector]) -> (Vec<Vector>, Vec<usize>) {
     let Some(first) = projected_points.first() else {
         return (Vec::new(), Vec::new());
@@ -205,8 +206,8 @@ fn filled_up_with_unit_vectors(vectors: &[Vector], length: usize) -> Vec<Vector>
 }
 
 /// What all points of one class, and no others, have in common. Written in the basis, a point has
-/// one coordinate for each chosen vector and one for each vector that fills up. The difference of two
-/// points is a combination of the chosen vectors with whole coefficients exactly if the former
+/// one coordinate for each chosen vector and one for each vector that fills up. The difference of
+/// two points is a combination of the chosen vectors with whole coefficients exactly if the former
 /// coordinates differ by whole numbers (their fractions are equal) and the latter are equal.
 fn class_mark(basis: &[Vector], chosen_count: usize, point: &[Rational]) -> Vector {
     let mut mark = linear::coefficients(basis, point).expect("a basis reaches every point");
@@ -232,8 +233,8 @@ fn floor_division(u: i64, r: i64) -> i64 {
     Rational::new(i128::from(u), i128::from(r)).floor()
 }
 
-/// The group of a point with the given coordinates: r neighbours along the grouping vector share one.
-/// Without a grouping vector there are no coordinates, and q is 0.
+/// The group of a point with the given coordinates: r neighbours along the grouping vector share
+/// one. Without a grouping vector there are no coordinates, and q is 0.
 fn group(class: usize, coordinates: &[i64], grouping: Option<usize>, group_size: i64) -> Group {
     match grouping {
         None => Group { class, q: 0, b: Vec::new() },
@@ -248,8 +249,6 @@ fn group(class: usize, coordinates: &[i64], grouping: Option<usize>, group_size:
 #[cfg(test)]
 mod tests {
     use super::*;
-    use crate::generate;
-    use crate::text;
 
     #[test]
     fn floor_division_below_at_and_above_zero() {
@@ -262,71 +261,5 @@ mod tests {
         let (different, numbers) = numbered_by_first(&["b", "a", "b", "c", "a"]);
         assert_eq!(different, vec!["b", "a", "c"]);
         assert_eq!(numbers, vec![0, 1, 0, 2, 1]);
-    }
-
-    /// The classes by the definition alone: each point is compared with the seed of each class found
-    /// so far.
-    fn classes_by_definition(chosen: &[Vector], points: &[Vector]) -> Vec<usize> {
-        let mut seeds: Vec<&Vector> = Vec::new();
-        let mut classes = Vec::new();
-        for point in points {
-            let found = seeds.iter().position(|seed| {
-                linear::coefficients(chosen, &linear::difference(point, seed))
-                    .is_some_and(|found| found.iter().all(|coefficient| coefficient.is_whole()))
-            });
-            classes.push(found.unwrap_or(seeds.len()));
-            if found.is_none() {
-                seeds.push(point);
-            }
-        }
-        classes
-    }
-
-    fn accepted_nests(count: u64) -> impl Iterator<Item = LoopNest> {
-        (0..count).filter_map(|index| text::read(&generate::case(11, index).text).ok())
-    }
-
-    #[test]
-    fn classes_are_those_of_the_definition() {
-        let mut compared = 0;
-        for nest in accepted_nests(600).filter(|nest| nest.iteration_count() <= 200) {
-            let iterations = Iterations::new(&nest);
-            let partition = Partition::new(&nest, &iterations);
-            let chosen: Vec<Vector> = partition
-                .grouping
-                .iter()
-                .chain(&partition.auxiliary)
-                .map(|&number| projection(&nest, &nest.dependences[number]))
-                .collect();
-            let classes: Vec<usize> = partition.groups.iter().map(|group| group.class).collect();
-            assert_eq!(classes, classes_by_definition(&chosen, &partition.projected_points));
-            compared += 1;
-        }
-        assert!(compared > 150);
-    }
-
-    #[test]
-    fn no_two_iterations_of_a_block_share_a_step() {
-        for nest in accepted_nests(600) {
-            let iterations = Iterations::new(&nest);
-            let partition = Partition::new(&nest, &iterations);
-            let mut places: Vec<(usize, i64)> =
-                partition.blocks.iter().copied().zip(partition.steps.iter().copied()).collect();
-            places.sort();
-            places.dedup();
-            assert_eq!(places.len(), iterations.count());
-        }
-    }
-
-    #[test]
-    fn a_group_has_at_most_r_projected_points() {
-        for nest in accepted_nests(600) {
-            let partition = Partition::new(&nest, &Iterations::new(&nest));
-            let mut sizes: HashMap<&Group, i64> = HashMap::new();
-            for group in &partition.groups {
-                *sizes.entry(group).or_insert(0) += 1;
-            }
-            assert!(sizes.values().all(|&size| size <= partition.group_size));
-        }
     }
 }

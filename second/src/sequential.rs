@@ -20,8 +20,8 @@ pub fn weighted_sum(nest: &LoopNest) -> impl Rule + '_ {
     }
 }
 
-/// The values of an iteration's sources, by dependence: its entry in the table for a source that is an
-/// iteration, the boundary value for any other.
+/// The values of an iteration's sources, by dependence: its entry in the table for a source that is
+/// an iteration, the boundary value for any other.
 pub fn source_values(
     nest: &LoopNest,
     iterations: &Iterations,
@@ -37,9 +37,9 @@ pub fn source_values(
         .collect()
 }
 
-/// The values that the loop nest computes under a rule when it is run as written, one iteration after
-/// the other. In an accepted nest every source has a smaller rank; the loop would stop here at one
-/// that has no value yet.
+/// The values that the loop nest computes under a rule when it is run as written, one iteration
+/// after the other. In an accepted nest every source has a smaller rank; the loop would stop here
+/// at one that has no value yet.
 pub fn sequential_values(nest: &LoopNest, iterations: &Iterations, rule: impl Rule) -> Vec<i64> {
     let mut table = Vec::new();
     for (rank, point) in iterations.points.iter().enumerate() {

@@ -8,9 +8,9 @@ pub const COLUMNS: usize = 6;
 /// The byte after each line, the last one included.
 pub const LINE_END: u8 = 10;
 
-/// Reads a text: the nest if it is accepted, its refusal (1 to 13) otherwise. Line 1 is judged in full,
-/// its form before its numbers, before anything after it is looked at; then all other lines are, again
-/// form before numbers.
+/// Reads a text: the nest if it is accepted, its refusal (1 to 13) otherwise. Line 1 is judged in
+/// full, its form before its numbers, before anything after it is looked at; then all other lines
+/// are, again form before numbers.
 pub fn read(text: &[u8]) -> Result<LoopNest, Number> {
     let (first_line, remaining) = split_first_line(text).ok_or(MALFORMED_TEXT)?;
     let counts = read_fields(first_line, 3).ok_or(MALFORMED_TEXT)?;
@@ -56,8 +56,8 @@ pub fn read_fields(line: &[u8], count: usize) -> Option<Vec<i64>> {
     line.chunks(COLUMNS).map(read_field).collect()
 }
 
-/// The number in a field: any spaces come first, then perhaps a minus sign, then the digits. None if
-/// the field has another form, 0 with a minus sign included.
+/// The number in a field: any spaces come first, then perhaps a minus sign, then the digits. None
+/// if the field has another form, 0 with a minus sign included.
 fn read_field(field: &[u8]) -> Option<i64> {
     let spaces = field.iter().take_while(|&&byte| byte == b' ').count();
     let number = &field[spaces..];

@@ -1,14 +1,16 @@
 //! Document 01's examples P1 to P10, its listing in full, the counts that source document 000
 //! gives for its loops L1 and L2, and nests worked out by hand.
 
+use std::fs;
+
 use second::listing::listing;
 use second::nest::{inner_product, LoopNest};
 use second::plan::Plan;
 use second::refusal::*;
 use second::text;
 
-/// The nest that an example starts from: it supplies whatever the example leaves unsaid (document 01,
-/// "Mixes to try").
+/// The nest that an example starts from: it supplies whatever the example leaves unsaid (document
+/// 01, "Mixes to try").
 fn silent_nest(depth: usize) -> LoopNest {
     let mut nest = LoopNest {
         depth: depth as i64,
@@ -258,8 +260,8 @@ fn all_projections_zero_makes_each_projected_point_a_group() {
     assert_eq!(plan.partition.class_count(), 7);
 }
 
-/// The projection of (x,y) is (0,y), so block y holds (0,y) to (3,y). All bits go to the class, whose
-/// parts 0, 1, 2, 3 have the Gray codes 0, 1, 3, 2.
+/// The projection of (x,y) is (0,y), so block y holds (0,y) to (3,y). All bits go to the class,
+/// whose parts 0, 1, 2, 3 have the Gray codes 0, 1, 3, 2.
 #[test]
 fn without_a_grouping_vector_the_bits_go_to_the_class() {
     let mut nest = silent_nest(2);
@@ -295,4 +297,51 @@ fn directions_whose_widths_are_no_powers_of_2() {
         (0..30).map(|k| first_of_row[k / 5] + 2 * codes_of_b[k % 5]).collect();
     assert_eq!(plan.mapping.block_processors, expected);
     assert_eq!(plan.mapping.messages.len(), 28);
+}
+
+/// A nest with some of its parts changed.
+fn changed(mut nest: LoopNest, change: impl FnOnce(&mut LoopNest)) -> LoopNest {
+    change(&mut nest);
+    nest
+}
+
+/// The names of the sheets in examples/, each with the nest that it must hold.
+fn nests_by_name() -> Vec<(&'static str, LoopNest)> {
+    let one = |upper| changed(silent_nest(1), |nest| nest.upper = vec![upper]);
+    let two = |upper| changed(silent_nest(2), |nest| nest.upper = vec![63, upper]);
+    let with = |time: [i64; 2], dependences: &[&[i64]]| {
+        changed(silent_nest(2), |nest| {
+            nest.time_vector = time.to_vec();
+            set_dependences(nest, dependences);
+        })
+    };
+    let p2 = text::read(P2_TEXT.as_bytes()).unwrap();
+    let p4 = loop_l2([3, 2, 3]);
+    vec![
+        ("P1", changed(p1(), |nest| nest.cube_dimension = 2)),
+        ("P2", p2.clone()),
+        ("P3", one(0)),
+        ("P4", p4.clone()),
+        ("P4-cube-2", changed(p4, |nest| nest.cube_dimension = 2)),
+        ("P5", with([1, 1], &[&[0, 3], &[0, 1]])),
+        ("P6", with([1, 0], &[&[1, 0], &[1, 1]])),
+        ("P7", with([1, 1], &[&[-1, 2]])),
+        ("P8", with([1, -1], &[&[0, 1]])),
+        ("P9", two(63)),
+        ("P9-refused", two(64)),
+        ("P10", one(1000)),
+        ("P10-refused", one(1001)),
+        ("refused", changed(p2, |nest| nest.time_vector = vec![1, 0])),
+    ]
+}
+
+#[test]
+fn the_sheets_in_examples_are_those_of_the_table() {
+    let folder = concat!(env!("CARGO_MANIFEST_DIR"), "/../examples");
+    let nests = nests_by_name();
+    for (name, nest) in &nests {
+        let sheet = fs::read_to_string(format!("{folder}/{name}.txt")).unwrap();
+        assert_eq!(sheet, text::write(nest), "{name}");
+    }
+    assert_eq!(fs::read_dir(folder).unwrap().count(), nests.len());
 }

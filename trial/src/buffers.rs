@@ -1,5 +1,5 @@
-//! The five buffers of a move. Each is lent as the middle of a longer one, so that a write outside what
-//! is lent shows.
+//! The five buffers of a move. Each is lent as the middle of a longer one, so that a write outside
+//! what is lent shows.
 
 use crate::entry::Lent;
 
@@ -108,11 +108,13 @@ mod tests {
         }
     }
 
+    type Change = fn(&mut Contents);
+
     #[test]
     fn a_changed_entry_shows_in_each_buffer() {
         let whole = contents();
         assert_eq!(Buffers::new(&whole).first_difference(&whole), None);
-        let changes: [(&str, fn(&mut Contents)); 5] = [
+        let changes: [(&str, Change); 5] = [
             ("steps", |c| c.steps[1] ^= 1 << 31),
             ("processors", |c| c.processors[0] ^= 128),
             ("values", |c| c.values[2] ^= 1 << 15),

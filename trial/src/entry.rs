@@ -1,9 +1,10 @@
-//! What is tried: an entry that plans and one that makes a move, in the form in which they are exported.
+//! What is tried: an entry that plans and one that makes a move, in the form in which they are
+//! exported.
 
 use second::machine::Move;
 
-/// A loop nest as the exported functions read it: depth, number of dependences, cube dimension, lower
-/// and upper limits, time vector, dependences, boundary value, weights, in this order.
+/// A loop nest as the exported functions read it: depth, number of dependences, cube dimension,
+/// lower and upper limits, time vector, dependences, boundary value, weights, in this order.
 pub type Numbers = [i64; 45];
 
 /// The kinds of a move, numbered as in document 02's log.
@@ -28,8 +29,8 @@ impl Request {
         Request { kind: DELIVER, first: rank, second: dependence }
     }
 
-    /// The move in the second planner's terms. A kind that is no move's is owed the answer of a place
-    /// that is not there.
+    /// The move in the second planner's terms. A kind that is no move's is owed the answer of a
+    /// place that is not there.
     pub fn as_move(self) -> Move {
         match self.kind {
             COMPUTE => Move::Compute { processor: self.first },
@@ -39,8 +40,8 @@ impl Request {
     }
 }
 
-/// The answer of a move: its number, and the rank and value of the iteration computed, or the rank and
-/// dependence number of the message delivered; zeros where refused.
+/// The answer of a move: its number, and the rank and value of the iteration computed, or the rank
+/// and dependence number of the message delivered; zeros where refused.
 #[derive(Clone, Copy, Debug, PartialEq, Eq)]
 pub struct Answer {
     pub number: u8,
@@ -62,8 +63,8 @@ pub struct Lent<'a> {
     pub delivered: &'a mut [u8],
 }
 
-/// The tables of a plan, and its counts: iterations, steps, blocks, processors that hold an iteration,
-/// messages.
+/// The tables of a plan, and its counts: iterations, steps, blocks, processors that hold an
+/// iteration, messages.
 pub struct Planned<'a> {
     pub steps: &'a mut [u32],
     pub blocks: &'a mut [u16],

@@ -60,8 +60,8 @@ impl<'j, 'a> Expected<'j, 'a> {
         Answer { number: number as u8, made }
     }
 
-    /// Rank and value of the iteration that was computed, by the done byte that changed; or rank and
-    /// dependence number of the message that was delivered.
+    /// Rank and value of the iteration that was computed, by the done byte that changed; or rank
+    /// and dependence number of the message that was delivered.
     fn made(&self, request: Request) -> [usize; 2] {
         if request.kind == DELIVER {
             return [request.first, request.second];

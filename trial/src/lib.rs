@@ -1,6 +1,6 @@
-//! Tries lists of moves on an entry that makes moves, and compares its answers and every byte of its
-//! buffers with the second planner's run on state tables and with its reference machine (document 01,
-//! "The run").
+//! Tries lists of moves on an entry that makes moves, and compares its answers and every byte of
+//! its buffers with the second planner's run on state tables and with its reference machine
+//! (document 01, "The run").
 //!
 //! | file | holds |
 //! |---|---|

@@ -1,9 +1,9 @@
 //! One list of moves from start to end, compared after each move.
 
-use second::generate::Random;
 use second::machine::ReferenceMachine;
 use second::plan::Plan;
 use second::refusal::DONE;
+use sheets::Random;
 
 use crate::buffers::{Buffers, Contents};
 use crate::entry::{Answer, Entry, Numbers, Request, COMPUTE};
@@ -63,8 +63,8 @@ impl<'r, 'a> Reference<'r, 'a> {
         Reference { machine, plan, is_complete }
     }
 
-    /// What the buffers must hold: done bytes and delivered bits are the machine's sets, computed values
-    /// the sequential loop's, all else as at the start.
+    /// What the buffers must hold: done bytes and delivered bits are the machine's sets, computed
+    /// values the sequential loop's, all else as at the start.
     fn contents(&self, start: &Contents) -> Contents {
         let mut contents = start.clone();
         for &rank in &self.machine.computed {

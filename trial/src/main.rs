@@ -2,8 +2,8 @@
 //!
 //!     trial [SEED]
 //!
-//! The last line says 'N passed, M failed', a case for each list; the exit status is 0 only if nothing
-//! failed.
+//! The last line says 'N passed, M failed', a case for each list; the exit status is 0 only if
+//! nothing failed.
 
 mod proved;
 

@@ -1,8 +1,8 @@
 //! Loop nests to try, and the 45 numbers that a nest is lent as.
 
-use second::generate::{self, Random};
 use second::nest::LoopNest;
 use second::refusal::Number;
+use sheets::Random;
 
 use crate::entry::Numbers;
 
@@ -46,7 +46,7 @@ pub fn numbers_over(mut numbers: Numbers, nest: &LoopNest) -> Numbers {
 
 /// An accepted nest that is not large; a kind that makes large ones gives way to the next.
 pub fn accepted(random: &mut Random, number: u64) -> LoopNest {
-    let (_, nest) = generate::accepted_nest(random, number);
+    let (_, nest) = sheets::accepted_nest(random, number);
     if nest.iteration_count() <= LARGE {
         nest
     } else {
@@ -57,7 +57,7 @@ pub fn accepted(random: &mut Random, number: u64) -> LoopNest {
 /// An accepted nest of 4096 iterations.
 pub fn full(random: &mut Random) -> LoopNest {
     for number in 0.. {
-        let (kind, nest) = generate::accepted_nest(random, number);
+        let (kind, nest) = sheets::accepted_nest(random, number);
         if kind == "full" && nest.iteration_count() == LoopNest::MOST_ITERATIONS {
             return nest;
         }
@@ -65,13 +65,13 @@ pub fn full(random: &mut Random) -> LoopNest {
     unreachable!("the kinds come round without end")
 }
 
-/// A refused nest, and its refusal: one condition met, or two, or a number out of the span of anything
-/// narrower than 64 bits.
+/// A refused nest, and its refusal: one condition met, or two, or a number out of the span of
+/// anything narrower than 64 bits.
 pub fn refused(random: &mut Random, number: u64) -> (Number, LoopNest) {
     loop {
         let nest = match number % 4 {
-            0 | 1 => generate::refused_nest(random, number / 4 * 2 + number % 4).1,
-            2 => generate::twice_refused_nest(random),
+            0 | 1 => sheets::refused_nest(random, number / 4 * 2 + number % 4).1,
+            2 => sheets::twice_refused_nest(random),
             _ => with_great_number(random),
         };
         if let Some(refusal) = nest.refusal() {
@@ -80,8 +80,8 @@ pub fn refused(random: &mut Random, number: u64) -> (Number, LoopNest) {
     }
 }
 
-/// An accepted nest in which one number is changed so that its low bits stay, or is the least or the
-/// greatest of all.
+/// An accepted nest in which one number is changed so that its low bits stay, or is the least or
+/// the greatest of all.
 fn with_great_number(random: &mut Random) -> LoopNest {
     let kind = random.between(0, 100) as u64;
     let mut nest = accepted(random, kind);

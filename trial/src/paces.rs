@@ -2,10 +2,10 @@
 
 use std::collections::{HashSet, VecDeque};
 
-use second::generate::Random;
 use second::nest::LoopNest;
 use second::plan::Plan;
 use second::refusal::{DONE, IDLE_PROCESSOR};
+use sheets::Random;
 
 use crate::entry::{Answer, Request, COMPUTE};
 use crate::requests::{disguised, Places};
@@ -164,8 +164,8 @@ impl<'p> CompleteRun<'p> {
         round
     }
 
-    /// A round of the processor that is ahead: its messages, then computes until it is stuck. In the
-    /// second phase a round of the others.
+    /// A round of the processor that is ahead: its messages, then computes until it is stuck. In
+    /// the second phase a round of the others.
     fn round_of_one(&self, computes: &[usize], deliveries: &[Message]) -> Vec<Request> {
         let is_ahead = |message: &&Message| self.places.held[message.rank] == self.ahead;
         let (to_one, to_others): (Vec<&Message>, Vec<&Message>) =
@@ -191,8 +191,8 @@ impl<'p> CompleteRun<'p> {
         computes.chain(deliveries).collect()
     }
 
-    /// Begins a round. The first phase goes on while it allows anything, the second is one round. After
-    /// two rounds without an allowed move comes the last round, which asks everything.
+    /// Begins a round. The first phase goes on while it allows anything, the second is one round.
+    /// After two rounds without an allowed move comes the last round, which asks everything.
     fn begin_round(&mut self, random: &mut Random) {
         self.rounds_without = if self.allowed_in_round { 0 } else { self.rounds_without + 1 };
         if self.rounds_without == 2 {

@@ -1,8 +1,8 @@
 //! Moves to ask for: likely ones, and ones with places that do not exist.
 
-use second::generate::Random;
 use second::nest::LoopNest;
 use second::plan::Plan;
+use sheets::Random;
 
 use crate::entry::{Request, COMPUTE};
 

@@ -1,4 +1,5 @@
-//! The rules of a move written once more, to test the comparison with: as they are, and with a fault.
+//! The rules of a move written once more, to test the comparison with: as they are, and with a
+//! fault.
 
 use second::nest::LoopNest;
 use second::plan::Plan;

@@ -2,11 +2,11 @@
 
 use std::sync::atomic::{AtomicU64, Ordering};
 
-use second::generate::Random;
 use second::machine::ReferenceMachine;
 use second::nest::LoopNest;
 use second::plan::Plan;
 use second::text;
+use sheets::Random;
 
 use crate::entry::{Answer, Entry, Lent, Numbers, Planned, Request};
 use crate::judge::Judge;

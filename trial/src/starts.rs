@@ -1,8 +1,8 @@
 //! What tables and state hold before the first move.
 
-use second::generate::Random;
 use second::nest::LoopNest;
 use second::plan::Plan;
+use sheets::Random;
 
 use crate::buffers::Contents;
 use crate::entry::{Entry, Numbers, Planned};

@@ -2,11 +2,11 @@
 
 use std::collections::BTreeMap;
 
-use second::generate::Random;
 use second::machine::ReferenceMachine;
 use second::nest::LoopNest;
 use second::plan::Plan;
 use second::text;
+use sheets::Random;
 
 use crate::buffers::Contents;
 use crate::entry::{Entry, Numbers};
@@ -156,7 +156,7 @@ fn accepted_with_plan(random: &mut Random, number: u64) -> (LoopNest, Plan) {
     for kind in number.. {
         let nest = nests::accepted(random, kind);
         let plan = Plan::new(&nest);
-        if number % 3 == 0 || 4 * plan.mapping.messages.len() >= plan.iterations.count() {
+        if number.is_multiple_of(3) || 4 * plan.mapping.messages.len() >= plan.iterations.count() {
             return (nest, plan);
         }
     }

@@ -3,8 +3,8 @@
 use crate::xml::{self, Node};
 use crate::{drawn, plan, second_plan, text, P2_LISTING, P2_SHEET};
 
-const P1_SHEET: &str = include_str!("../../sheets/P1.txt");
-const P4_SHEET: &str = include_str!("../../sheets/P4.txt");
+const P1_SHEET: &str = include_str!("../../../examples/P1.txt");
+const P4_SHEET: &str = include_str!("../../../examples/P4-cube-2.txt");
 
 /// The squares of a picture, in the order of their ranks.
 fn squares(picture: &Node) -> Vec<&Node> {
@@ -44,6 +44,26 @@ fn on_curve(points: &[(f64, f64)], time: f64) -> (f64, f64) {
     (one.0 + time * (other.0 - one.0), one.1 + time * (other.1 - one.1))
 }
 
+/// A hundred points of a line: of a curve, or of a line that is straight from point to point.
+fn along(line: &Node) -> Vec<(f64, f64)> {
+    let points = points(line);
+    let times = (0..=100).map(|time| f64::from(time) / 100.0);
+    if points.len() <= 4 {
+        return times.map(|time| on_curve(&points, time)).collect();
+    }
+    let times: Vec<f64> = times.collect();
+    points.windows(2).flat_map(|pair| times.iter().map(|&time| on_curve(pair, time))).collect()
+}
+
+/// Whether a point is in the box of a text of the axes, with the usual widths of characters.
+fn is_in_text(text: &Node, (x, y): (f64, f64)) -> bool {
+    let size = if text.get("font-size").is_empty() { 12.0 } else { text.number("font-size") };
+    let width = 0.62 * size * text.text.chars().count() as f64;
+    let right = text.number("x") + if text.get("text-anchor") == "end" { 0.0 } else { width / 2.0 };
+    let base = text.number("y");
+    right - width < x && x < right && base - size < y && y < base
+}
+
 /// Whether a point is in a square that is made larger, or smaller, by some room on all sides.
 fn is_in(square: &Node, room: f64, (x, y): (f64, f64)) -> bool {
     let [left, top, right, bottom] = sides(square);
@@ -57,10 +77,9 @@ fn beside(square: &Node, point: (f64, f64)) -> bool {
 
 /// Whether a line runs over a square, its own ends' squares included.
 fn runs_over_a_square(picture: &Node, line: &Node) -> bool {
-    let points = points(line);
     let squares = squares(picture);
     let is_covered = |point| squares.iter().any(|square| is_in(square, -5.0, point));
-    (0..=100).any(|time| is_covered(on_curve(&points, f64::from(time) / 100.0)))
+    along(line).into_iter().any(is_covered)
 }
 
 /// The ranks of the squares that each line of a class leads from and to.
@@ -302,10 +321,61 @@ fn many_iterations_are_drawn_without_labels() {
     }
 }
 
+/// A nest of these limits with dependences of one step in each loop.
+fn with_unit_dependences(limits: &[[i64; 2]], cube: i64) -> String {
+    let depth = limits.len();
+    let mut lines = vec![vec![depth as i64, depth as i64, cube]];
+    lines.extend(limits.iter().map(|limits| limits.to_vec()));
+    lines.push(vec![1; depth]);
+    lines.extend((0..depth).map(|k| (0..depth).map(|other| i64::from(k == other)).collect()));
+    lines.push(vec![1; depth + 1]);
+    let lines: Vec<&[i64]> = lines.iter().map(|line| &line[..]).collect();
+    text(&lines)
+}
+
+#[test]
+fn labels_stay_as_long_as_they_fit() {
+    let labels = |limits: &[[i64; 2]]| {
+        let picture = drawn(&[second_plan("labels", &with_unit_dependences(limits, 2))]);
+        picture.classed("iterations")[0].tagged("text").len()
+    };
+    assert_eq!(labels(&[[0, 1], [0, 20]]), 2 * 42);
+    assert_eq!(labels(&[[0, 20], [0, 1]]), 2 * 42);
+    assert_eq!(labels(&[[0, 36]]), 2 * 37);
+    assert_eq!(labels(&[[0, 37]]), 0);
+    assert_eq!(labels(&[[0, 3], [0, 24], [0, 3]]), 2 * 400);
+    assert_eq!(labels(&[[0, 3], [0, 25], [0, 3]]), 0);
+}
+
+#[test]
+fn lines_from_band_to_band_cross_no_title_and_no_index() {
+    for limits in [[[0, 11], [0, 3], [0, 3]], [[-7, 22], [0, 4], [0, 0]], [[0, 63], [0, 7], [0, 7]]]
+    {
+        let picture = drawn(&[second_plan("bands", &with_unit_dependences(&limits, 3))]);
+        let texts = picture.classed("axes")[0].tagged("text");
+        let lines = picture.classed("messages")[0].tagged("path");
+        let between: Vec<&&Node> = lines.iter().filter(|line| points(line).len() > 4).collect();
+        assert!(!between.is_empty(), "{limits:?}");
+        for line in between {
+            let crossed = |point| texts.iter().any(|text| is_in_text(text, point));
+            assert!(!along(line).into_iter().any(crossed), "{limits:?}: {}", line.get("d"));
+        }
+    }
+    let sheet = with_unit_dependences(&[[0, 11], [0, 3], [0, 3]], 3);
+    let picture = drawn(&[second_plan("bands", &sheet)]);
+    assert_eq!(
+        joined(&picture, "messages").len(),
+        picture.classed("messages")[0].tagged("path").len()
+    );
+    for line in picture.classed("messages")[0].tagged("path") {
+        assert!(!runs_over_a_square(&picture, line), "{}", line.get("d"));
+    }
+}
+
 #[test]
 fn plans_stand_one_below_the_other() {
     let p2 = plan("P2", P2_SHEET, P2_LISTING);
-    let alone = drawn(&[p2.clone()]);
+    let alone = drawn(std::slice::from_ref(&p2));
     let both = drawn(&[p2, second_plan("P4", P4_SHEET)]);
     let panels = both.classed("panel");
     assert_eq!(panels.len(), 2);

@@ -1,5 +1,5 @@
-//! What pictures show: the squares, colours, labels and arrows of plans that were drawn up by hand from
-//! document 01, or listed by the second planner; and what is refused.
+//! What pictures show: the squares, colours, labels and arrows of plans that were drawn up by hand
+//! from document 01, or listed by the second planner; and what is refused.
 
 mod drawn;
 mod program;
@@ -10,8 +10,9 @@ use picture::page;
 use picture::plan::Plan;
 use xml::Node;
 
-/// Document 01's listing in full, P2: the sheet of the examples, and what the planning program has to print for it.
-const P2_SHEET: &str = include_str!("../../../examples/sheet.txt");
+/// Document 01's listing in full, P2: the sheet of the examples, and what the planning program has
+/// to print for it.
+const P2_SHEET: &str = include_str!("../../../examples/P2.txt");
 const P2_LISTING: &str = include_str!("../../../crates/plan/stdout");
 
 /// A text of six-column fields.

@@ -1,4 +1,5 @@
-//! The second planning program: a loop nest's text on standard input, its listing on standard output.
+//! The second planning program: a loop nest's text on standard input, its listing on standard
+//! output.
 
 use std::io::{self, Read, Write};
 

@@ -1,0 +1,325 @@
+/* Calls every function of the library from C, with valid and damaged input, on the nest of document
+ * 01's listing; what must be answered and left is from there.
+ *
+ * Each buffer is lent between two pages that may not be touched: in a first round its last byte
+ * stands before the second, in a second round its first byte behind the first. A byte out of
+ * bounds, read or written, ends the program. (The library itself is built without sanitizers, so
+ * they see this file only.) */
+#define _DEFAULT_SOURCE
+#include <stdio.h>
+#include <stdlib.h>
+#include <string.h>
+#include <sys/mman.h>
+#include <unistd.h>
+
+#include "rowlock.h"
+
+#define ITERATIONS 6
+
+static int failures, round_at_start;
+
+#define CHECK(condition)                                                                           \
+    do {                                                                                           \
+        if (!(condition)) {                                                                        \
+            printf("%s:%d: %s\n", __FILE__, __LINE__, #condition);                                 \
+            failures++;                                                                            \
+        }                                                                                          \
+    } while (0)
+
+/* clang-format off */
+static const char text[] =
+    "     2     2     1\n"
+    "     0     1\n"
+    "     0     2\n"
+    "     1     1\n"
+    "     0     1\n"
+    "     1     0\n"
+    "     1     2     3\n";
+static const char listing[] =
+    "     6     4     3     2     2\n"
+    "     0     0     0     0     5\n"
+    "     1     1     0     0    14\n"
+    "     2     2     1     1    33\n"
+    "     3     1     2     0    20\n"
+    "     4     2     0     0    86\n"
+    "     5     3     0     0   276\n";
+
+static const struct rowlock_nest whole = {
+    .depth = 2, .count = 2, .cube = 1,
+    .upper = {1, 2}, .time = {1, 1}, .dependences = {0, 1, 0, 1, 0, 0},
+    .boundary = 1, .weights = {2, 3},
+};
+/* clang-format on */
+static const uint32_t steps[ITERATIONS] = {0, 1, 2, 1, 2, 3};
+static const uint16_t blocks[ITERATIONS] = {0, 0, 1, 2, 0, 0};
+static const uint8_t processors[ITERATIONS] = {0, 0, 1, 0, 0, 0};
+static const uint16_t values[ITERATIONS] = {5, 14, 33, 20, 86, 276};
+static const size_t counts[5] = {6, 4, 3, 2, 2}, no_counts[5];
+
+/* So many bytes between two pages that may not be touched, each with the same content. The pages
+ * are kept to the end. */
+static void *lend(size_t size) {
+    size_t page = (size_t)sysconf(_SC_PAGESIZE), inside = (size / page + 1) * page;
+    uint8_t *pages = mmap(NULL, inside + 2 * page, PROT_NONE, MAP_PRIVATE | MAP_ANONYMOUS, -1, 0);
+    if (pages == MAP_FAILED || mprotect(pages + page, inside, PROT_READ | PROT_WRITE) != 0) {
+        perror("lend");
+        exit(2);
+    }
+    memset(pages + page, 0x5A, inside);
+    return pages + page + (round_at_start ? 0 : inside - size);
+}
+
+/* The same, with a content. */
+static void *lend_copy(const void *bytes, size_t size) {
+    return memcpy(lend(size), bytes, size);
+}
+
+/* Whether a buffer holds `size` bytes as given, and behind them, up to `room`, what it was lent
+ * with. */
+static int holds(const void *buffer, const void *bytes, size_t size, size_t room) {
+    const uint8_t *at = buffer;
+    for (size_t k = size; k < room; k++)
+        if (at[k] != 0x5A)
+            return 0;
+    return memcmp(at, bytes, size) == 0;
+}
+
+/* a nest in which a number, and where it is told a second one, is another; and its refusal */
+struct damage {
+    size_t place;
+    int64_t number;
+    size_t other_place;
+    int64_t other_number;
+    uint8_t refusal;
+};
+
+/* places: depth, count, cube 0 to 2, lower 3, upper 6, time 9, dependences 12, boundary 36,
+ * weights 37. Place 44, the last weight, is no part of the nest. */
+static const struct damage damages[] = {
+    {44, 0, 44, 0, ROWLOCK_DONE},
+    {44, INT64_MIN, 5, INT64_MAX, ROWLOCK_DONE},
+    {14, 999, 18, INT64_MIN, ROWLOCK_DONE},
+    {0, 0, 1, 0, ROWLOCK_BAD_DEPTH},
+    {0, INT64_MAX, 2, INT64_MAX, ROWLOCK_BAD_DEPTH},
+    {1, 9, 2, 7, ROWLOCK_BAD_COUNT},
+    {2, -1, 3, 2, ROWLOCK_BAD_CUBE},
+    {3, 2, 9, 17, ROWLOCK_BAD_LIMITS},
+    {7, INT64_MIN, 9, 17, ROWLOCK_BAD_LIMITS},
+    {6, 1000, 7, 1000, ROWLOCK_TOO_MANY_POINTS},
+    {9, 17, 12, 17, ROWLOCK_BAD_TIME},
+    {12, -17, 37, 256, ROWLOCK_BAD_DEPENDENCE},
+    {15, 0, 37, 256, ROWLOCK_BACKWARD_DEPENDENCE},
+    {15, 0, 16, 1, ROWLOCK_EQUAL_DEPENDENCES},
+    {10, 0, 36, -1, ROWLOCK_AGAINST_TIME},
+    {9, 0, 10, 0, ROWLOCK_AGAINST_TIME},
+    {36, 65536, 44, 0, ROWLOCK_BAD_WEIGHT},
+    {38, -1, 44, 0, ROWLOCK_BAD_WEIGHT},
+};
+
+static struct rowlock_nest damaged(const struct damage *damage) {
+    int64_t numbers[45];
+    struct rowlock_nest nest;
+    memcpy(numbers, &whole, sizeof numbers);
+    numbers[damage->place] = damage->number;
+    numbers[damage->other_place] = damage->other_number;
+    memcpy(&nest, numbers, sizeof nest);
+    return nest;
+}
+
+/* The answer that a call owes whose nest and whose room are as told: the nest's refusal goes first.
+ */
+static uint8_t owed(uint8_t refusal, int room) {
+    return refusal != ROWLOCK_DONE ? refusal : room ? ROWLOCK_DONE : ROWLOCK_SHORT_BUFFER;
+}
+
+static void try_check(const struct rowlock_nest *nest, uint8_t refusal) {
+    size_t *iterations = lend(sizeof *iterations);
+    CHECK(rowlock_check(nest) == refusal);
+    CHECK(rowlock_inspect(nest, iterations) == refusal);
+    CHECK(*iterations == (refusal == ROWLOCK_DONE ? ITERATIONS : 0));
+}
+
+static void try_write(const struct rowlock_nest *nest, uint8_t refusal) {
+    for (size_t room = 0; room < sizeof text + 3; room++) {
+        uint8_t answer = owed(refusal, room >= sizeof text - 1), *buffer = lend(room);
+        size_t *length = lend(sizeof *length),
+               written = answer == ROWLOCK_DONE ? sizeof text - 1 : 0;
+        CHECK(rowlock_write(nest, buffer, room, length) == answer);
+        CHECK(*length == written);
+        CHECK(holds(buffer, text, written, room));
+    }
+}
+
+static void try_locate(const struct rowlock_nest *nest, uint8_t refusal) {
+    static const int64_t indices[] = {0, 1, -1, 2, INT64_MIN, INT64_MAX};
+    static const size_t entries[] = {0, ITERATIONS - 1, ITERATIONS, ITERATIONS + 1, SIZE_MAX};
+    for (size_t k = 0; k < 6 * 5; k++) {
+        int64_t index = indices[k / 5];
+        uint8_t answer = owed(refusal, entries[k % 5] >= ITERATIONS);
+        if (answer == ROWLOCK_DONE && k / 5 > 1)
+            answer = ROWLOCK_NO_SUCH_ROW;
+        size_t *span = lend(2 * sizeof *span);
+        CHECK(rowlock_locate(nest, entries[k % 5], index, span) == answer);
+        CHECK(span[0] == (answer == ROWLOCK_DONE ? (size_t)index * 3 : 0));
+        CHECK(span[1] == (answer == ROWLOCK_DONE ? 3 : 0));
+    }
+}
+
+static void try_fill(const struct rowlock_nest *nest, uint8_t refusal) {
+    for (size_t room = 0; room < ITERATIONS + 3; room++) {
+        uint8_t answer = owed(refusal, room >= ITERATIONS);
+        uint16_t *table = lend(room * sizeof *table);
+        CHECK(rowlock_fill(nest, table, room) == answer);
+        CHECK(
+            holds(table, values, answer == ROWLOCK_DONE ? sizeof values : 0, room * sizeof *table));
+    }
+}
+
+/* One of the four tables has `room` entries, and the others enough. */
+static void try_plan(const struct rowlock_nest *nest, uint8_t refusal, size_t short_one,
+                     size_t room) {
+    size_t rooms[4] = {ITERATIONS, ITERATIONS + 1, ITERATIONS + 2, ITERATIONS};
+    rooms[short_one] = room;
+    uint32_t *a = lend(rooms[0] * sizeof *a);
+    uint16_t *b = lend(rooms[1] * sizeof *b);
+    uint8_t *c = lend(rooms[2]);
+    uint16_t *d = lend(rooms[3] * sizeof *d);
+    size_t *told = lend(sizeof counts);
+    uint8_t answer = owed(refusal, room >= ITERATIONS);
+    int made = answer == ROWLOCK_DONE;
+    CHECK(rowlock_plan(nest, a, rooms[0], b, rooms[1], c, rooms[2], d, rooms[3], told) == answer);
+    CHECK(memcmp(told, made ? counts : no_counts, sizeof counts) == 0);
+    CHECK(holds(a, steps, made ? sizeof steps : 0, rooms[0] * sizeof *a));
+    CHECK(holds(b, blocks, made ? sizeof blocks : 0, rooms[1] * sizeof *b));
+    CHECK(holds(c, processors, made ? sizeof processors : 0, rooms[2]));
+    CHECK(holds(d, values, made ? sizeof values : 0, rooms[3] * sizeof *d));
+}
+
+/* A first move, on a fresh state of which one buffer (or one table of the plan) is an entry short,
+ * or none if `short_one` is 5: a compute, or a kind that is no move's. */
+static void try_move(const struct rowlock_nest *nest, uint8_t refusal, size_t kind,
+                     size_t short_one) {
+    static const uint8_t zeros[ITERATIONS], one[ITERATIONS] = {1};
+    size_t n[6] = {ITERATIONS, ITERATIONS, ITERATIONS, ITERATIONS, ITERATIONS, 0};
+    n[short_one] -= short_one < 5;
+    uint32_t *a = lend_copy(steps, n[0] * sizeof *a);
+    uint8_t *b = lend_copy(processors, n[1]), *d = lend_copy(zeros, n[3]),
+            *e = lend_copy(zeros, n[4]);
+    uint16_t *c = lend(n[2] * sizeof *c);
+    size_t *made = lend(2 * sizeof *made);
+    uint8_t answer = owed(refusal, short_one == 5);
+    if (answer == ROWLOCK_DONE && kind != ROWLOCK_COMPUTE)
+        answer = ROWLOCK_NO_SUCH_PLACE;
+    int computed = answer == ROWLOCK_DONE;
+    CHECK(rowlock_move(nest, kind, 0, SIZE_MAX, a, n[0], b, n[1], c, n[2], d, n[3], e, n[4],
+                       made) == answer);
+    CHECK(made[0] == 0 && made[1] == (computed ? 5 : 0));
+    CHECK(holds(a, steps, n[0] * sizeof *a, 0) && holds(b, processors, n[1], 0) &&
+          holds(e, zeros, n[4], 0));
+    CHECK(holds(c, values, computed ? sizeof *c : 0, n[2] * sizeof *c));
+    CHECK(holds(d, computed ? one : zeros, n[3], 0));
+}
+
+/* Every function that takes a nest as numbers. */
+static void try_nest(const struct damage *damage) {
+    struct rowlock_nest numbers = damaged(damage);
+    const struct rowlock_nest *nest = lend_copy(&numbers, sizeof numbers);
+    try_check(nest, damage->refusal);
+    try_write(nest, damage->refusal);
+    try_locate(nest, damage->refusal);
+    try_fill(nest, damage->refusal);
+    for (size_t k = 0; k < 4 * (ITERATIONS + 3); k++)
+        try_plan(nest, damage->refusal, k % 4, k / 4);
+    static const size_t kinds[] = {ROWLOCK_COMPUTE, 0, 3, 256, SIZE_MAX};
+    for (size_t k = 0; k < 5 * 6; k++)
+        try_move(nest, damage->refusal, kinds[k / 6], k % 6);
+}
+
+/* The first so many bytes of the text: all of it is read, and less is malformed. */
+static void try_read(size_t length) {
+    static const struct rowlock_nest empty;
+    uint8_t answer = length == sizeof text - 1 ? ROWLOCK_DONE : ROWLOCK_MALFORMED_TEXT;
+    const uint8_t *lent = lend_copy(text, length);
+    struct rowlock_nest *nest = lend(sizeof *nest);
+    CHECK(rowlock_read(lent, length, nest) == answer);
+    CHECK(memcmp(nest, answer == ROWLOCK_DONE ? &whole : &empty, sizeof whole) == 0);
+}
+
+/* The listing of the first so many bytes of the text, into a buffer of so many bytes. */
+static void try_list(size_t length, size_t room) {
+    uint8_t answer = owed(length == sizeof text - 1 ? ROWLOCK_DONE : ROWLOCK_MALFORMED_TEXT,
+                          room >= sizeof listing - 1);
+    const uint8_t *lent = lend_copy(text, length);
+    uint8_t *buffer = lend(room);
+    size_t *told = lend(sizeof *told), written = answer == ROWLOCK_DONE ? sizeof listing - 1 : 0;
+    CHECK(rowlock_list(lent, length, buffer, room, told) == answer);
+    CHECK(*told == written);
+    CHECK(holds(buffer, listing, written, room));
+}
+
+/* a move, its number and what it made */
+struct move {
+    size_t kind, first, second;
+    uint8_t answer;
+    size_t made[2];
+};
+
+/* A run to its end, with moves that are refused on the way. */
+static void try_run(void) {
+    static const struct move moves[] = {
+        {1, 1, 0, ROWLOCK_WAITING, {0, 0}},
+        {2, 2, 0, ROWLOCK_OUT_OF_TURN, {0, 0}},
+        {0, 0, 0, ROWLOCK_NO_SUCH_PLACE, {0, 0}},
+        {1, 0, 0, ROWLOCK_DONE, {0, 5}},
+        {1, 0, 0, ROWLOCK_DONE, {1, 14}},
+        {0, 2, 0, ROWLOCK_NO_SUCH_PLACE, {0, 0}},
+        {3, 2, 0, ROWLOCK_NO_SUCH_PLACE, {0, 0}},
+        {SIZE_MAX, 2, 0, ROWLOCK_NO_SUCH_PLACE, {0, 0}},
+        {2, 2, 0, ROWLOCK_DONE, {2, 0}},
+        {2, 2, 0, ROWLOCK_OUT_OF_TURN, {0, 0}},
+        {1, 1, 9, ROWLOCK_DONE, {2, 33}},
+        {1, 1, 0, ROWLOCK_IDLE_PROCESSOR, {0, 0}},
+        {1, 2, 0, ROWLOCK_NO_SUCH_PLACE, {0, 0}},
+        {2, 6, 0, ROWLOCK_NO_SUCH_PLACE, {0, 0}},
+        {2, 0, 2, ROWLOCK_NO_SUCH_PLACE, {0, 0}},
+        {1, SIZE_MAX, 0, ROWLOCK_NO_SUCH_PLACE, {0, 0}},
+        {2, SIZE_MAX, 0, ROWLOCK_NO_SUCH_PLACE, {0, 0}},
+        {2, 0, 0, ROWLOCK_OUT_OF_TURN, {0, 0}},
+        {1, 0, 0, ROWLOCK_DONE, {3, 20}},
+        {1, 0, 0, ROWLOCK_DONE, {4, 86}},
+        {1, 0, 0, ROWLOCK_WAITING, {0, 0}},
+        {2, 5, 1, ROWLOCK_DONE, {5, 1}},
+        {1, 0, 0, ROWLOCK_DONE, {5, 276}},
+        {1, 0, 0, ROWLOCK_IDLE_PROCESSOR, {0, 0}},
+    };
+    static const uint8_t zeros[ITERATIONS], ones[ITERATIONS] = {1, 1, 1, 1, 1, 1},
+                                            bits[ITERATIONS] = {0, 0, 1, 0, 0, 2};
+    const uint32_t *a = lend_copy(steps, sizeof steps);
+    const uint8_t *b = lend_copy(processors, sizeof processors);
+    uint16_t *c = lend(sizeof values);
+    uint8_t *d = lend_copy(zeros, sizeof zeros), *e = lend_copy(zeros, sizeof zeros);
+    for (size_t k = 0; k < sizeof moves / sizeof moves[0]; k++) {
+        const struct move *m = &moves[k];
+        size_t *made = lend(sizeof m->made);
+        CHECK(rowlock_move(&whole, m->kind, m->first, m->second, a, ITERATIONS, b, ITERATIONS, c,
+                           ITERATIONS, d, ITERATIONS, e, ITERATIONS, made) == m->answer);
+        CHECK(memcmp(made, m->made, sizeof m->made) == 0);
+    }
+    CHECK(memcmp(c, values, sizeof values) == 0 && memcmp(d, ones, sizeof ones) == 0 &&
+          memcmp(e, bits, sizeof bits) == 0);
+}
+
+int main(void) {
+    for (round_at_start = 0; round_at_start < 2; round_at_start++) {
+        for (size_t k = 0; k < sizeof damages / sizeof damages[0]; k++)
+            try_nest(&damages[k]);
+        for (size_t length = 0; length < sizeof text; length++)
+            try_read(length);
+        for (size_t room = 0; room < sizeof listing + 3; room++)
+            try_list(sizeof text - 1, room);
+        try_list(0, 0);
+        try_list(sizeof text - 2, sizeof listing);
+        try_run();
+    }
+    return failures != 0;
+}

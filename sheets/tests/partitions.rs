@@ -1,0 +1,75 @@
+//! The second planner's partition on generated nests: its classes are those of the definition, and
+//! what 000 says of groups and blocks holds.
+
+use std::collections::HashMap;
+
+use second::linear::{self, Vector};
+use second::nest::{Iterations, LoopNest};
+use second::partition::{projection, Group, Partition};
+use second::text;
+
+/// The classes by the definition alone: each point is compared with the seed of each class found
+/// so far.
+fn classes_by_definition(chosen: &[Vector], points: &[Vector]) -> Vec<usize> {
+    let mut seeds: Vec<&Vector> = Vec::new();
+    let mut classes = Vec::new();
+    for point in points {
+        let found = seeds.iter().position(|seed| {
+            linear::coefficients(chosen, &linear::difference(point, seed))
+                .is_some_and(|found| found.iter().all(|coefficient| coefficient.is_whole()))
+        });
+        classes.push(found.unwrap_or(seeds.len()));
+        if found.is_none() {
+            seeds.push(point);
+        }
+    }
+    classes
+}
+
+fn accepted_nests(count: u64) -> impl Iterator<Item = LoopNest> {
+    (0..count).filter_map(|index| text::read(&sheets::case(11, index).text).ok())
+}
+
+#[test]
+fn classes_are_those_of_the_definition() {
+    let mut compared = 0;
+    for nest in accepted_nests(600).filter(|nest| nest.iteration_count() <= 200) {
+        let iterations = Iterations::new(&nest);
+        let partition = Partition::new(&nest, &iterations);
+        let chosen: Vec<Vector> = partition
+            .grouping
+            .iter()
+            .chain(&partition.auxiliary)
+            .map(|&number| projection(&nest, &nest.dependences[number]))
+            .collect();
+        let classes: Vec<usize> = partition.groups.iter().map(|group| group.class).collect();
+        assert_eq!(classes, classes_by_definition(&chosen, &partition.projected_points));
+        compared += 1;
+    }
+    assert!(compared > 150);
+}
+
+#[test]
+fn no_two_iterations_of_a_block_share_a_step() {
+    for nest in accepted_nests(600) {
+        let iterations = Iterations::new(&nest);
+        let partition = Partition::new(&nest, &iterations);
+        let mut places: Vec<(usize, i64)> =
+            partition.blocks.iter().copied().zip(partition.steps.iter().copied()).collect();
+        places.sort();
+        places.dedup();
+        assert_eq!(places.len(), iterations.count());
+    }
+}
+
+#[test]
+fn a_group_has_at_most_r_projected_points() {
+    for nest in accepted_nests(600) {
+        let partition = Partition::new(&nest, &Iterations::new(&nest));
+        let mut sizes: HashMap<&Group, i64> = HashMap::new();
+        for group in &partition.groups {
+            *sizes.entry(group).or_insert(0) += 1;
+        }
+        assert!(sizes.values().all(|&size| size <= partition.group_size));
+    }
+}

@@ -1,0 +1,151 @@
+//! The command `./plan`: what it prints, says and ends with, on sheets and on what is no sheet. The
+//! listings themselves are compared with the second planner's.
+
+use std::fs;
+use std::io::Write;
+use std::os::unix::fs::symlink;
+use std::path::{Path, PathBuf};
+use std::process::{Command, Output, Stdio};
+
+use second::listing::listing;
+
+fn root() -> PathBuf {
+    Path::new(env!("CARGO_MANIFEST_DIR")).join("..")
+}
+
+/// A place for a test's own files.
+fn place(name: &str) -> PathBuf {
+    Path::new(env!("CARGO_TARGET_TMPDIR")).join(name)
+}
+
+/// `./plan` with these arguments, called in the repository's folder, with a text as its input.
+fn plan(arguments: &[&str], input: &[u8]) -> Output {
+    let mut command = Command::new("./plan");
+    command.args(arguments).current_dir(root());
+    command.stdin(Stdio::piped()).stdout(Stdio::piped()).stderr(Stdio::piped());
+    let mut child = command.spawn().expect("./plan starts");
+    // a call that does not read its input may end before it is given
+    let _ = child.stdin.take().expect("it is piped").write_all(input);
+    child.wait_with_output().expect("./plan ends")
+}
+
+/// A line of a shell, called in the repository's folder.
+fn shell(line: &str) -> Output {
+    Command::new("bash").args(["-c", line]).current_dir(root()).output().expect("bash starts")
+}
+
+fn said(output: &Output) -> String {
+    String::from_utf8_lossy(&output.stderr).into_owned()
+}
+
+/// The answer to a text: the second planner's listing, and status 0; or 1 and a line that says so.
+fn assert_planned(output: &Output, text: &[u8], name: &str) {
+    let expected = listing(text);
+    assert_eq!(String::from_utf8_lossy(&output.stdout), expected, "{name}");
+    if expected.len() == 7 {
+        assert_eq!(output.status.code(), Some(1), "{name}");
+        let start = format!("plan: refused with {}, ", expected.trim());
+        assert!(said(output).starts_with(&start), "{name}: {}", said(output));
+        assert_eq!(said(output).lines().count(), 1, "{name}: {}", said(output));
+    } else {
+        assert_eq!(output.status.code(), Some(0), "{name}: {}", said(output));
+        assert_eq!(said(output), "", "{name}");
+    }
+}
+
+/// A call that could not be done: nothing that looks like a listing, a reason, status 2.
+fn assert_failed(output: &Output, reason: &str) {
+    assert_eq!(output.status.code(), Some(2), "{}", said(output));
+    assert!(said(output).contains(reason), "{}", said(output));
+}
+
+#[test]
+fn every_sheet_of_examples_as_a_file_and_as_input() {
+    for entry in fs::read_dir(root().join("examples")).expect("examples") {
+        let path = entry.expect("a file").path();
+        let name = path.file_name().expect("a name").to_string_lossy().into_owned();
+        let text = fs::read(&path).expect("a sheet");
+        assert_planned(&plan(&[&format!("examples/{name}")], b""), &text, &name);
+        assert_planned(&plan(&[], &text), &text, &name);
+        assert_planned(&plan(&["-"], &text), &text, &name);
+    }
+}
+
+#[test]
+fn the_line_where_a_malformed_sheet_stops_fitting() {
+    let whole = fs::read_to_string(root().join("examples/P2.txt")).expect("a sheet");
+    let changed = |from: &str, to: &str| whole.replacen(from, to, 1).into_bytes();
+    let six = ", each right-justified in six columns";
+    let cases: Vec<(Vec<u8>, String)> = vec![
+        (Vec::new(), "it is empty".into()),
+        (changed("     2     2     1\n", "     2     2    1\n"), format!("line 1 is not 3 numbers{six}")),
+        (changed("     2     2     1\n", "     2     2     1"), format!("line 1 is not 3 numbers{six}")),
+        (changed("     0     2\n", "     0     2 \n"), format!("line 3 is not 2 numbers{six}")),
+        (changed("     1     0\n", "     1    -0\n"), format!("line 6 is not 2 numbers{six}")),
+        (changed("     1     0\n", "     1\t    0\n"), format!("line 6 is not 2 numbers{six}")),
+        (changed("     1     2     3\n", "     1     2\n"), format!("line 7 is not 3 numbers{six}")),
+        (changed("     1     2     3\n", "     1     2     3"), "line 7 does not end in a line feed".into()),
+        (changed("     1     2     3\n", ""), "line 7 is missing".into()),
+        ([whole.as_bytes(), b"\n"].concat(), "line 8 is one too many".into()),
+        ([whole.as_bytes(), &b"     0\n".repeat(99)].concat(), "line 8 is one too many".into()),
+        (changed("     0     1\n", "\0    0     1\n"), format!("line 2 is not 2 numbers{six}")),
+        (
+            whole.replace('\n', "\r\n").into_bytes(),
+            format!("line 1 is not 3 numbers{six}; it has carriage returns: take them out, as with tr -d '\\r'"),
+        ),
+    ];
+    for (text, expected) in cases {
+        let output = plan(&[], &text);
+        assert_planned(&output, &text, &expected);
+        let said = said(&output);
+        assert!(said.contains("1, MALFORMED_TEXT: "), "{said}");
+        assert!(said.trim_end().ends_with(&format!("; {expected}")), "{said}");
+    }
+}
+
+#[test]
+fn what_cannot_be_read_is_said() {
+    assert_failed(&plan(&["examples"], b""), "Is a directory");
+    assert_failed(&plan(&["examples/no_such_sheet"], b""), "No such file");
+    assert_failed(&shell("./plan <examples"), "Is a directory");
+    assert_failed(&shell("./plan <&-"), "could not be read");
+    assert_failed(&shell("./plan 0>target/written_only"), "could not be read");
+    for output in [plan(&["examples"], b""), shell("./plan <&-"), shell("./plan <examples")] {
+        assert_eq!(output.stdout, b"");
+    }
+}
+
+#[test]
+fn what_cannot_be_written_is_said() {
+    assert_failed(&shell("./plan examples/P2.txt >/dev/full"), "could not be written");
+    assert_failed(&shell("./plan examples/P2.txt >&-"), "could not be written");
+    assert_failed(&shell("./plan examples/refused.txt >/dev/full"), "could not be written");
+    let late = "set -o pipefail; trap '' PIPE; ./plan examples/P9.txt | true";
+    assert_failed(&shell(late), "could not be written");
+}
+
+#[test]
+fn help_version_and_calls_that_are_wrong() {
+    let help = plan(&["--help"], b"");
+    assert!(help.status.success() && help.stdout.starts_with(b"usage: ./plan [FILE]\n"));
+    let version = plan(&["--version"], b"");
+    let expected = concat!("plan ", env!("CARGO_PKG_VERSION"), "\n");
+    assert!(version.status.success() && version.stdout == expected.as_bytes());
+    for arguments in [&["--no-such"][..], &["examples/P1.txt", "examples/P2.txt"]] {
+        let output = plan(arguments, b"");
+        assert_eq!(output.status.code(), Some(2));
+        assert!(output.stdout.is_empty() && said(&output).starts_with("usage: "));
+    }
+}
+
+#[test]
+fn through_a_symbolic_link_from_another_folder() {
+    let folder = place("linked");
+    fs::create_dir_all(&folder).expect("a folder");
+    let [link, sheet] = [folder.join("plan"), folder.join("a sheet.txt")];
+    let _ = fs::remove_file(&link);
+    symlink(fs::canonicalize(root().join("plan")).expect("./plan"), &link).expect("a link");
+    fs::copy(root().join("examples/P2.txt"), &sheet).expect("a copy");
+    let output = Command::new("./plan").arg("a sheet.txt").current_dir(&folder).output();
+    assert_planned(&output.expect("./plan starts"), &fs::read(&sheet).expect("it"), "linked");
+}
