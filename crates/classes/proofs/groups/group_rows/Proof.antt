@@ -86,6 +86,9 @@ shared-slice-read-c c = let l = c .before .before in let d = l .before .before i
 cast-c : tie.Need-cast-c Inv-loop μ-loop
 cast-c c = let l = c .before .before in let d = l .before .before in let w = c .before .loop-test .taken in omega (arith, class-low l w)
 
+cast-heads : tie.Need-cast-heads Inv-loop μ-loop
+cast-heads c = let l = c .before .before in let d = l .before .before in let w = c .before .loop-test .taken in omega (arith, w, n-most d)
+
 mul-heads : tie.Need-mul-heads Inv-loop μ-loop
 mul-heads c = let l = c .before .before in let d = l .before .before in let w = c .before .loop-test .taken in omega (arith, w, few l, n-most d)
 
@@ -100,6 +103,9 @@ mul-h c = let l = c .before .before .before in let d = l .before .before in let 
 
 array-read-h : tie.Need-array-read-h Inv-loop μ-loop
 array-read-h c = let l = c .before .before .before in let d = l .before .before in let w = c .before .before .loop-test .taken in omega (arith, class-low l w)
+
+cast-h : tie.Need-cast-h Inv-loop μ-loop
+cast-h c = let l = c .before .before .before in let d = l .before .before in let w = c .before .before .loop-test .taken in let p = low l (getD (d .args .classes .now) (l .loop .i) 0) w (class-is l w) in omega (arith, w, p, n-most d)
 
 group-of-requires : tie.Need-group-of-requires Inv-loop μ-loop
 group-of-requires c κs =
@@ -174,11 +180,13 @@ group-rows-spec =
     mul-c
     shared-slice-read-c
     cast-c
+    cast-heads
     mul-heads
     array-write-heads
     one-more-requires
     mul-h
     array-read-h
+    cast-h
     group-of-requires
     put-row-requires
     add-i
