@@ -2,7 +2,7 @@
 -- limits. Assumes nothing.
 use mathlib.Core.List.{List}
 use Prim.Native.Nat.{ℕ, _*_, _<_, _≤_}
-use lib.IntN.{ℤ, pos, natAbs, _-ℤ_}
+use lib.IntN.{ℤ, pos, natAbs, _+ℤ_}
 use lib.ListN.{length, getD}
 use Rattle.integers.specs.Vector.{dots, AllWithin}
 use Rattle.nest.specs.Nest.{toℕ, part, maxDepth, maxLimit, maxComponent}
@@ -29,6 +29,6 @@ productAt time n keys k = dots (part time 0 n) (digits n (getD keys k (pos 0)))
 abbrev pub maxProduct : ℕ
 maxProduct = maxDepth * (maxComponent * maxLimit)
 
--- the step of iteration k, where each P·j and the least of them are given
-abbrev pub stepFrom : List ℤ → ℤ → ℕ → ℕ
-stepFrom products least k = toℕ (getD products k (pos 0) -ℤ least)
+-- a P·j as a number that is not negative: the difference of two of them stays what it was
+abbrev pub raised : ℤ → ℕ
+raised product = toℕ (product +ℤ pos maxProduct)
