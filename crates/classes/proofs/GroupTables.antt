@@ -14,7 +14,7 @@ use lib.Seq.{getD-set-same, getD-set-other}
 use Rattle.integers.specs.Lists.{place, firsts}
 use Rattle.grouping.specs.Grouping.{Frame, sameClass, seeds, classNumber, directions, difference}
 use Rattle.numbering.specs.Tables.{row, rows, putRow}
-use Rattle.grouping.specs.Basis.{GroupedAs, Grouped, basisFrame, inOneClass, pick, residues, ClassRows}
+use Rattle.grouping.specs.Basis.{GroupedAs, Grouped, basisFrameBy, inOneClassBy, pick, residuesBy, ClassRowsBy}
 use Rattle.numbering.proofs.Rows.{length-heads, head-at, put-other, put-length, put-row, row-other}
 use Rattle.numbering.proofs.Table.{Numbered, numbered-start, numbered-more, number-most, numbered-number}
 
@@ -148,36 +148,36 @@ groups-same same F count t table₀ table heads k n K room j l =
         ∙ ap (λ (hs : List Vector). getD hs (getD (K .out) j 0) []) (K .num .heads-are)
 
 -- the group size plays no part in the test for one class
-pub size-free : (P a b c : Vector) (count r : ℕ) → inOneClass P count a b c ≡ sameClass (basisFrame P count a b c r)
+pub size-free : (P a b c : Vector) (count r : ℕ) → inOneClassBy P count a b c ≡ sameClass (basisFrameBy P count a b c r)
 unfolding sameClass directions difference
 size-free P a b c count r = refl
 
 -- after the last point every row is a group
-pub groups-end : (P a b c : Vector) (count r : ℕ) (t table₀ table : List ℤ) (heads : List ℕ) (k i n : ℕ) → GroupsTo (inOneClass P count a b c) (basisFrame P count a b c r) count t table₀ table heads k i
-    → k ≤ length heads → i ≡ n → Grouped (basisFrame P count a b c r) count t n table₀ table
+pub groups-end : (P a b c : Vector) (count r : ℕ) (t table₀ table : List ℤ) (heads : List ℕ) (k i n : ℕ) → GroupsTo (inOneClassBy P count a b c) (basisFrameBy P count a b c r) count t table₀ table heads k i
+    → k ≤ length heads → i ≡ n → Grouped (basisFrameBy P count a b c r) count t n table₀ table
 unfolding classNumber seeds
 groups-end P a b c count r t table₀ table heads k i n K₀ room e =
     record {
-      grouped = groups-same (sameClass (basisFrame P count a b c r)) (basisFrame P count a b c r) count t table₀ table heads k n K room;
+      grouped = groups-same (sameClass (basisFrameBy P count a b c r)) (basisFrameBy P count a b c r) count t table₀ table heads k n K room;
       rest = K .rest;
       size = K .size;
       within = K .within;
     }
   where
-    K : GroupsTo (sameClass (basisFrame P count a b c r)) (basisFrame P count a b c r) count t table₀ table heads k n
+    K : GroupsTo (sameClass (basisFrameBy P count a b c r)) (basisFrameBy P count a b c r) count t table₀ table heads k n
     K =
-        subst (λ (m : ℕ). GroupsTo (sameClass (basisFrame P count a b c r)) (basisFrame P count a b c r) count t table₀ table heads k m) e
-        (subst (λ (s : Vector → Vector → Bool). GroupsTo s (basisFrame P count a b c r) count t table₀ table heads k i) (size-free P a b c count r) K₀)
+        subst (λ (m : ℕ). GroupsTo (sameClass (basisFrameBy P count a b c r)) (basisFrameBy P count a b c r) count t table₀ table heads k m) e
+        (subst (λ (s : Vector → Vector → Bool). GroupsTo s (basisFrameBy P count a b c r) count t table₀ table heads k i) (size-free P a b c count r) K₀)
 
 -- ---- the residues of the points, written from the front
 
 -- none yet
-pub class-rows-start : (count : ℕ) (f1 f2 f3 : Vector) (d : ℤ) (t table : List ℤ) → ClassRows count f1 f2 f3 d t 0 table table
+pub class-rows-start : (count : ℕ) (f1 f2 f3 : Vector) (d : ℤ) (t table : List ℤ) → ClassRowsBy count f1 f2 f3 d t 0 table table
 class-rows-start count f1 f2 f3 d t table = record { rows-are = λ j l. absurd (omega arith); rest = λ a l. refl; size = refl; within = λ j l. absurd (omega arith) }
 
 -- one more
-pub class-rows-more : (count : ℕ) (f1 f2 f3 : Vector) (d : ℤ) (t table₀ table : List ℤ) (i : ℕ) (g : Vector) → ClassRows count f1 f2 f3 d t i table₀ table → i * 4 + 4 ≤ length table
-    → g ≡ residues count f1 f2 f3 d (row t i) → AllWithin 1000000000 g → ClassRows count f1 f2 f3 d t (i + 1) table₀ (putRow table i g)
+pub class-rows-more : (count : ℕ) (f1 f2 f3 : Vector) (d : ℤ) (t table₀ table : List ℤ) (i : ℕ) (g : Vector) → ClassRowsBy count f1 f2 f3 d t i table₀ table → i * 4 + 4 ≤ length table
+    → g ≡ residuesBy count f1 f2 f3 d (row t i) → AllWithin 1000000000 g → ClassRowsBy count f1 f2 f3 d t (i + 1) table₀ (putRow table i g)
 class-rows-more count f1 f2 f3 d t table₀ table i g K fits e w =
     record {
       rows-are = λ j l. rows′ j (NatL.eq-or-lt-of-le (omega arith));
@@ -189,8 +189,8 @@ class-rows-more count f1 f2 f3 d t table₀ table i g K fits e w =
     here : row (putRow table i g) i ≡ g
     here = put-row table i g fits (ap (λ (u : Vector). length u) e)
 
-    rows′ : (j : ℕ) → (j ≡ i) ⊎ (j < i) → row (putRow table i g) j ≡ residues count f1 f2 f3 d (row t j)
-    rows′ j (inl q) = subst (λ (m : ℕ). row (putRow table i g) m ≡ residues count f1 f2 f3 d (row t m)) (sym q) (here ∙ e)
+    rows′ : (j : ℕ) → (j ≡ i) ⊎ (j < i) → row (putRow table i g) j ≡ residuesBy count f1 f2 f3 d (row t j)
+    rows′ j (inl q) = subst (λ (m : ℕ). row (putRow table i g) m ≡ residuesBy count f1 f2 f3 d (row t m)) (sym q) (here ∙ e)
     rows′ j (inr l) = row-other table i j g l ∙ K .rows-are j l
 
     within′ : (j : ℕ) → (j ≡ i) ⊎ (j < i) → AllWithin 1000000000 (row (putRow table i g) j)
@@ -198,5 +198,5 @@ class-rows-more count f1 f2 f3 d t table₀ table i g K fits e w =
     within′ j (inr l) = subst (AllWithin 1000000000) (sym (row-other table i j g l)) (K .within j l)
 
 -- the groups, written over them
-pub grouped-after : (F : Frame) (count : ℕ) (f1 f2 f3 : Vector) (d : ℤ) (t : List ℤ) (n : ℕ) (table₀ table table′ : List ℤ) → ClassRows count f1 f2 f3 d t n table₀ table → Grouped F count t n table table′ → Grouped F count t n table₀ table′
+pub grouped-after : (F : Frame) (count : ℕ) (f1 f2 f3 : Vector) (d : ℤ) (t : List ℤ) (n : ℕ) (table₀ table table′ : List ℤ) → ClassRowsBy count f1 f2 f3 d t n table₀ table → Grouped F count t n table table′ → Grouped F count t n table₀ table′
 grouped-after F count f1 f2 f3 d t n table₀ table table′ C G = record { grouped = G .grouped; rest = λ a l. G .rest a l ∙ C .rest a l; size = G .size ∙ C .size; within = G .within }

@@ -16,7 +16,7 @@ use Rattle.nest.specs.Refusals.{refusal}
 use Rattle.sources.specs.Keys.{digits, keysOf, sourceIn}
 use Rattle.sources.proofs.Cursors.{keys-most, keys-length}
 use Rattle.sources.proofs.NestKeys.{point-within, digits-point}
-use Rattle.grouping.specs.Basis.{pick, Framed, basisFrame}
+use Rattle.grouping.specs.Basis.{pick, FramedBy, basisFrameBy}
 use Rattle.grouping.specs.Grouping.{Frame, Group, chosenVectors, blocks, blockNumber}
 use Rattle.grouping.specs.Projection.{groupSize}
 use Rattle.partition.specs.GroupRows.{groupsOn, GroupTable}
@@ -73,10 +73,10 @@ module _ (s : LoopNest) (ok : refusal s ≡ 0) (before : ℕ → ℕ) (count : �
   lines-rest = ap (drop (length (pointsOf s))) lines-are ∙ drop-at (linesTo before (length (pointsOf s))) (drop (length (pointsOf s)) lines₀) (length (pointsOf s)) (lines-length before (length (pointsOf s)))
 
   module _ (P : Vector) (c : ℕ) (v1 v2 v3 f1 f2 f3 : Vector) (d : ℤ) (r : ℕ)
-      (framed : Framed P c v1 v2 v3 f1 f2 f3 d) (time : P ≡ padded 4 (timeOf s)) (chosen : pick c v1 v2 v3 ≡ map (padded 4) (chosenVectors (timeOf s) (dependencesOf s)))
+      (framed : FramedBy P c v1 v2 v3 f1 f2 f3 d) (time : P ≡ padded 4 (timeOf s)) (chosen : pick c v1 v2 v3 ≡ map (padded 4) (chosenVectors (timeOf s) (dependencesOf s)))
       (size : r ≡ groupSize (timeOf s) (dependencesOf s)) (distance : ℤ) (A : Apart P (depthOf s) distance) (by : before ≡ (λ k. sourceIn (keysOf s) k distance)) where
     abbrev F : Frame
-    F = basisFrame P c v1 v2 v3 r
+    F = basisFrameBy P c v1 v2 v3 r
 
     -- the groups of the first iterations, as they are computed
     abbrev gs : List Group

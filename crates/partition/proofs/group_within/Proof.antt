@@ -8,7 +8,7 @@ use lib.IntN.{ℤ}
 use lib.ListN.{length, take, drop}
 use Rattle.integers.specs.Vector.{Vector, eqV}
 use Rattle.numbering.proofs.Table.{table-number}
-use Rattle.grouping.specs.Basis.{basisFrame}
+use Rattle.grouping.specs.Basis.{basisFrameBy}
 use Rattle.grouping.specs.Grouping.{Frame}
 use Rattle.partition.specs.Heads.{pointsBy}
 use Rattle.partition.proofs.LineGroups.{lines-count, spread-is, gathered}
@@ -17,7 +17,7 @@ use Rattle.partition.proofs.group_within.Tie as tie
 
 -- the frame, and the points of the lines
 abbrev F : tie.Start → Frame
-F d = let f = d .args .f in basisFrame (f .p) (f .count) (f .v1) (f .v2) (f .v3) (d .args .r)
+F d = let f = d .args .f in basisFrameBy (f .p) (f .count) (f .v1) (f .v2) (f .v3) (d .args .r)
 
 abbrev ps : tie.Start → List Vector
 ps d = pointsBy (d .args .keys .now) (d .args .n) (take (d .args .count) (d .args .heads .now))

@@ -8,7 +8,7 @@ use lib.ListN.{length, getD, take, set, length-set}
 use lib.IntN.{ℤ}
 use Rattle.integers.specs.Lists.{place}
 use Rattle.integers.specs.Vector.{Vector}
-use Rattle.grouping.specs.Basis.{inOneClass, basisFrame}
+use Rattle.grouping.specs.Basis.{inOneClassBy, basisFrameBy}
 use Rattle.grouping.specs.Grouping.{Frame}
 use Rattle.numbering.specs.Tables.{row}
 use Rattle.classes.proofs.ClassFacts.{class-refl}
@@ -17,7 +17,7 @@ use Rattle.classes.proofs.groups.group_rows.Statement.{statement}
 use Rattle.classes.proofs.groups.group_rows.Tie as tie
 
 abbrev Inv-loop : tie.InvT-loop
-Inv-loop f r points classes n groups₀ heads₀ k₀ i₀ groups heads k i = (i ≤ n) × (length heads ≡ 4096) × GroupsTo (inOneClass (f .p) (f .count) (f .v1) (f .v2) (f .v3)) (basisFrame (f .p) (f .count) (f .v1) (f .v2) (f .v3) r) (f .count) points groups₀ groups heads k i
+Inv-loop f r points classes n groups₀ heads₀ k₀ i₀ groups heads k i = (i ≤ n) × (length heads ≡ 4096) × GroupsTo (inOneClassBy (f .p) (f .count) (f .v1) (f .v2) (f .v3)) (basisFrameBy (f .p) (f .count) (f .v1) (f .v2) (f .v3) r) (f .count) points groups₀ groups heads k i
 
 abbrev μ-loop : tie.MeasureT-loop
 μ-loop f r points classes n groups₀ heads₀ k₀ i₀ groups heads k i = n - i
@@ -30,10 +30,10 @@ Start = tie.Start Inv-loop μ-loop
 
 -- the test for one class, and the frame
 abbrev same : Start → Vector → Vector → Bool
-same d = let f = d .args .f in inOneClass (f .p) (f .count) (f .v1) (f .v2) (f .v3)
+same d = let f = d .args .f in inOneClassBy (f .p) (f .count) (f .v1) (f .v2) (f .v3)
 
 abbrev frame : Start → Frame
-frame d = let f = d .args .f in basisFrame (f .p) (f .count) (f .v1) (f .v2) (f .v3) (d .args .r)
+frame d = let f = d .args .f in basisFrameBy (f .p) (f .count) (f .v1) (f .v2) (f .v3) (d .args .r)
 
 few : (l : At) → l .loop .k ≤ l .loop .i
 few l = l .loop .inv .2 .num .few
