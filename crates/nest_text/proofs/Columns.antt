@@ -4,12 +4,13 @@ use mathlib.Core.Path.{_≡_, refl}
 use mathlib.Core.Bool.{Bool, true, false, _&&_}
 use Prim.Native.Nat.{ℕ, _≤_}
 use lib.Dec.{T}
-use lib.IntN.{ℤ, pos, negsuc, negℤ}
+use lib.IntN.{ℤ, pos, negℤ}
 use lib.Signed.{leZ}
 use Rattle.integers.specs.Linear.{ints}
 use Rattle.nest.specs.Nest.{maxLimit, maxComponent}
 use Rattle.nest.proofs.Spans.{Span}
 use Rattle.nest_text.specs.Stored.{InColumns}
+use Rattle.nest_text.specs.Fields.{leastNumber, greatestNumber}
 
 -- two tests that pass
 both : (a b : Bool) → T a → T b → (a && b) ≡ true
@@ -18,8 +19,8 @@ both true false p q = absurd q
 both false b p q = absurd p
 
 -- a number from -99999 to 999999 has room
-pub in-columns : (z : ℤ) → Span (negsuc 99998) (pos 999999) z → InColumns z
-in-columns z h = both (leZ (negsuc 99998) z) (leZ z (pos 999999)) (h .0 .le) (h .1 .le)
+pub in-columns : (z : ℤ) → Span leastNumber greatestNumber z → InColumns z
+in-columns z h = both (leZ leastNumber z) (leZ z greatestNumber) (h .0 .le) (h .1 .le)
 
 -- so have a loop's limits
 pub limit-columns : (z : ℤ) → Span (negℤ (pos maxLimit)) (pos maxLimit) z → InColumns z

@@ -15,22 +15,23 @@ use mir.Val.{toZ, ofZ}
 use mir.Facts.{toZ-ofZ}
 use lib.ListN.{length, getD, drop, take, set, replicate, length-drop, length-replicate, replicate-append-replicate}
 use lib.Seq.{drop-cons, drop-length, take-all, lt-length-set, getD-set-same, drop-set-lt, take-set-le, take-take, set-at, drop-drop}
-use Rattle.nest_text.specs.Fields.{blanksOf, allDigits, valueOf, isDigit, digitsTo, within, textOf, fieldOf}
+use Rattle.nest_text.specs.Fields.{columns, space, minus, zeroDigit, sevenDigits, blanksOf, allDigits, valueOf, isDigit, digitsTo, numeralOf, fieldOf}
+use Rattle.nest_text.specs.Stored.{InColumns}
 
 module _ (l : List ℕ) (k : ℕ) (h : k < length l) where
-  pub blanks-stop : (getD l k 0 ≡ 32 → ⊥) → blanksOf (drop k l) ≡ 0
+  pub blanks-stop : (getD l k 0 ≡ space → ⊥) → blanksOf (drop k l) ≡ 0
   unfolding blanksOf
-  blanks-stop e = rw (drop-cons l k 0 h, ne-eqb (getD l k 0) 32 e) refl
+  blanks-stop e = rw (drop-cons l k 0 h, ne-eqb (getD l k 0) space e) refl
 
-  pub blanks-more : getD l k 0 ≡ 32 → blanksOf (drop k l) ≡ blanksOf (drop (k + 1) l) + 1
+  pub blanks-more : getD l k 0 ≡ space → blanksOf (drop k l) ≡ blanksOf (drop (k + 1) l) + 1
   unfolding blanksOf
-  blanks-more e = rw (add-one k, drop-cons l k 0 h, eq-eqb (getD l k 0) 32 e) refl
+  blanks-more e = rw (add-one k, drop-cons l k 0 h, eq-eqb (getD l k 0) space e) refl
 
   pub digits-more : allDigits (drop k l) ≡ (isDigit (getD l k 0) && allDigits (drop (k + 1) l))
   unfolding allDigits
   digits-more = rw (add-one k, drop-cons l k 0 h) refl
 
-  pub value-more : (a : ℕ) → valueOf a (drop k l) ≡ valueOf (a * 10 + (getD l k 0 - 48)) (drop (k + 1) l)
+  pub value-more : (a : ℕ) → valueOf a (drop k l) ≡ valueOf (a * 10 + (getD l k 0 - zeroDigit)) (drop (k + 1) l)
   unfolding valueOf
   value-more a = rw (add-one k, drop-cons l k 0 h) refl
 
@@ -57,8 +58,8 @@ empty (a ∷ l) h = absurd (omega arith)
 pub tail-part : (l : List ℕ) → take (length l - 1) (drop 1 l) ≡ drop 1 l
 tail-part l = take-all (length l - 1) (drop 1 l) (simp length-drop (omega arith))
 
-pub minus : (n : ℕ) → pos 0 -ℤ pos n ≡ negℤ (pos n)
-minus n = +ℤ-idl (negℤ (pos n))
+pub minus-is : (n : ℕ) → pos 0 -ℤ pos n ≡ negℤ (pos n)
+minus-is n = +ℤ-idl (negℤ (pos n))
 
 pub mag-negpos : (n : ℕ) → mag (negℤ (pos n)) ≤ n
 mag-negpos zero = omega arith
@@ -89,11 +90,11 @@ two-digits r (suc (suc a)) h l = omega arith
 pub tenth : (r i : ℕ) → r < 10 ^ (i + 1) → r / 10 < 10 ^ i
 tenth r i h = let e = pow-add-one 10 i in omega arith
 
-pub digits-ten : (r i : ℕ) (acc : List ℕ) → 10 ≤ r → digitsTo (i + 1) r acc ≡ digitsTo i (r / 10) ((48 + r % 10) ∷ acc)
+pub digits-ten : (r i : ℕ) (acc : List ℕ) → 10 ≤ r → digitsTo (i + 1) r acc ≡ digitsTo i (r / 10) ((zeroDigit + r % 10) ∷ acc)
 unfolding digitsTo
 digits-ten r i acc h = rw (add-one i, le-ltb r 10 h) refl
 
-pub digits-last : (r i : ℕ) (acc : List ℕ) → r < 10 → digitsTo (i + 1) r acc ≡ (48 + r % 10) ∷ acc
+pub digits-last : (r i : ℕ) (acc : List ℕ) → r < 10 → digitsTo (i + 1) r acc ≡ (zeroDigit + r % 10) ∷ acc
 unfolding digitsTo
 digits-last r i acc h =
     let e : r % 10 ≡ r = omega arith in
@@ -103,10 +104,10 @@ and-left : (a b : Bool) → (a && b) ≡ true → a ≡ true
 and-left true b h = refl
 and-left false b h = h
 
-pub within-neg : (n : ℕ) → within (negsuc 99998) (pos 999999) (negsuc n) ≡ true → n < 99999
+pub within-neg : (n : ℕ) → InColumns (negsuc n) → n < 99999
 within-neg n h = omega (arith, leb-true n 99998 (and-left (leb n 99998) true h))
 
-pub within-pos : (n : ℕ) → within (negsuc 99998) (pos 999999) (pos n) ≡ true → n < 1000000
+pub within-pos : (n : ℕ) → InColumns (pos n) → n < sevenDigits
 within-pos n h = omega (arith, leb-true n 999999 h)
 
 -- a number below 10 ^ j has at most j digits
@@ -114,66 +115,66 @@ pub digits-short : (j f n : ℕ) (acc : List ℕ) → n < 10 ^ j → 1 ≤ j →
 unfolding digitsTo
 digits-short zero f n acc h l = absurd (omega arith)
 digits-short (suc j) zero n acc h l = omega arith
-digits-short (suc j) (suc f) n acc h l = by (ltb n 10) refl (λ p q. digits-short j f (n / 10) ((48 + n % 10) ∷ acc) p q)
+digits-short (suc j) (suc f) n acc h l = by (ltb n 10) refl (λ p q. digits-short j f (n / 10) ((zeroDigit + n % 10) ∷ acc) p q)
   where
-    by : (t : Bool) → ltb n 10 ≡ t → (n / 10 < 10 ^ j → 1 ≤ j → length (digitsTo f (n / 10) ((48 + n % 10) ∷ acc)) ≤ j + suc (length acc)) → length (cond t ((48 + n) ∷ acc) (digitsTo f (n / 10) ((48 + n % 10) ∷ acc))) ≤ suc j + length acc
+    by : (t : Bool) → ltb n 10 ≡ t → (n / 10 < 10 ^ j → 1 ≤ j → length (digitsTo f (n / 10) ((zeroDigit + n % 10) ∷ acc)) ≤ j + suc (length acc)) → length (cond t ((zeroDigit + n) ∷ acc) (digitsTo f (n / 10) ((zeroDigit + n % 10) ∷ acc))) ≤ suc j + length acc
     by true e go = omega arith
     by false e go =
         let m = two-digits n (suc j) (ltb-false n 10 e) h in
         omega (arith, go (tenth n j (rw (add-one j) h)) (omega arith))
 
-pub take-blank : (k n : ℕ) → k ≤ n → take {A = ℕ} k (replicate n 32) ≡ replicate k 32
+pub take-blank : (k n : ℕ) → k ≤ n → take {A = ℕ} k (replicate n space) ≡ replicate k space
 take-blank zero n h = refl
 take-blank (suc k) zero h = absurd (omega arith)
-take-blank (suc k) (suc n) h = ap (λ (l : List ℕ). 32 ∷ l) (take-blank k n (omega arith))
+take-blank (suc k) (suc n) h = ap (λ (l : List ℕ). space ∷ l) (take-blank k n (omega arith))
 
 -- ---- the size of a number that six columns hold
 pub record Sized (z : ℤ) : Type 0 where
   pub small : mag (pos 0 -ℤ z) < 2 ^ 63
   pub plus : T (nonNeg (pos 0 -ℤ z))
   pub same : natAbs (pos 0 -ℤ z) ≡ natAbs z
-  pub million : natAbs z < 1000000
+  pub million : natAbs z < sevenDigits
 
-pub sized-neg : (z : ℤ) → within (negsuc 99998) (pos 999999) z ≡ true → ltZ z (pos 0) ≡ true → Sized z
+pub sized-neg : (z : ℤ) → InColumns z → ltZ z (pos 0) ≡ true → Sized z
 sized-neg (pos n) h l = absurd (omega (arith, ltb-true n 0 l))
 sized-neg (negsuc n) h l = record { small = omega (arith, within-neg n h); plus = tt; same = omega arith; million = omega (arith, within-neg n h) }
 
-pub sized-pos : (z : ℤ) → within (negsuc 99998) (pos 999999) z ≡ true → ltZ z (pos 0) ≡ false → T (nonNeg z) × (natAbs z < 1000000)
+pub sized-pos : (z : ℤ) → InColumns z → ltZ z (pos 0) ≡ false → T (nonNeg z) × (natAbs z < sevenDigits)
 sized-pos (pos n) h l = (tt, within-pos n h)
 sized-pos (negsuc n) h l = absurd (subst T l tt)
 
 -- ---- the six columns of a number whose digits are d, from column a on
-module _ (a : ℕ) (d : List ℕ) (six : a + length d ≡ 6) where
-  pub field-plain : take a (replicate 6 32) ++ d ≡ replicate (6 - length d) 32 ++ d
+module _ (a : ℕ) (d : List ℕ) (six : a + length d ≡ columns) where
+  pub field-plain : take a (replicate columns space) ++ d ≡ replicate (columns - length d) space ++ d
   field-plain =
-      let e : 6 - length d ≡ a = omega arith in
-      rw (e, take-blank a 6 (omega arith)) refl
+      let e : columns - length d ≡ a = omega arith in
+      rw (e, take-blank a columns (omega arith)) refl
 
-  pub field-minus : 1 ≤ a → set (take a (replicate 6 32) ++ d) (a - 1) 45 ≡ replicate (6 - length (45 ∷ d)) 32 ++ (45 ∷ d)
+  pub field-minus : 1 ≤ a → set (take a (replicate columns space) ++ d) (a - 1) minus ≡ replicate (columns - length (minus ∷ d)) space ++ (minus ∷ d)
   field-minus h =
-      let e : 6 - suc (length d) ≡ a - 1 = omega arith in
+      let e : columns - suc (length d) ≡ a - 1 = omega arith in
       let q : a ≡ a - 1 + 1 = omega arith in
-      let p : replicate {A = ℕ} a 32 ≡ replicate {A = ℕ} (a - 1) 32 ++ (32 ∷ []) = ap (λ (n : ℕ). replicate {A = ℕ} n 32) q ∙ sym (replicate-append-replicate (a - 1) 1 32) in
-      rw (e, take-blank a 6 (omega arith), p, append-assoc (replicate (a - 1) 32) (32 ∷ []) d) (set-at (replicate (a - 1) 32) 32 d 45 (a - 1) (length-replicate (a - 1) 32))
+      let p : replicate {A = ℕ} a space ≡ replicate {A = ℕ} (a - 1) space ++ (space ∷ []) = ap (λ (n : ℕ). replicate {A = ℕ} n space) q ∙ sym (replicate-append-replicate (a - 1) 1 space) in
+      rw (e, take-blank a columns (omega arith), p, append-assoc (replicate (a - 1) space) (space ∷ []) d) (set-at (replicate (a - 1) space) space d minus (a - 1) (length-replicate (a - 1) space))
 
 -- ---- what the writer leaves is the field
-pub written-minus : (z : ℤ) (a : ℕ) → ltZ z (pos 0) ≡ true → within (negsuc 99998) (pos 999999) z ≡ true → a + length (digitsTo 6 (natAbs z) []) ≡ 6 → (1 ≤ a) × (set (take a (replicate 6 32) ++ digitsTo 6 (natAbs z) []) (a - 1) 45 ≡ fieldOf z)
-unfolding fieldOf textOf
+pub written-minus : (z : ℤ) (a : ℕ) → ltZ z (pos 0) ≡ true → InColumns z → a + length (digitsTo columns (natAbs z) []) ≡ columns → (1 ≤ a) × (set (take a (replicate columns space) ++ digitsTo columns (natAbs z) []) (a - 1) minus ≡ fieldOf z)
+unfolding fieldOf numeralOf
 written-minus (pos n) a l h six = absurd (omega (arith, ltb-true n 0 l))
 written-minus (negsuc n) a l h six =
-    let room : 1 ≤ a = omega (arith, digits-short 5 6 (suc n) [] (omega (arith, within-neg n h)) (omega arith)) in
-    (room, rw (add-one n) (field-minus a (digitsTo 6 (suc n) []) six room))
+    let room : 1 ≤ a = omega (arith, digits-short 5 columns (suc n) [] (omega (arith, within-neg n h)) (omega arith)) in
+    (room, rw (add-one n) (field-minus a (digitsTo columns (suc n) []) six room))
 
-pub written-plain : (z : ℤ) (a : ℕ) → ltZ z (pos 0) ≡ false → a + length (digitsTo 6 (natAbs z) []) ≡ 6 → take a (replicate 6 32) ++ digitsTo 6 (natAbs z) [] ≡ fieldOf z
-unfolding fieldOf textOf
-written-plain (pos n) a l six = field-plain a (digitsTo 6 n []) six
+pub written-plain : (z : ℤ) (a : ℕ) → ltZ z (pos 0) ≡ false → a + length (digitsTo columns (natAbs z) []) ≡ columns → take a (replicate columns space) ++ digitsTo columns (natAbs z) [] ≡ fieldOf z
+unfolding fieldOf numeralOf
+written-plain (pos n) a l six = field-plain a (digitsTo columns n []) six
 written-plain (negsuc n) a l six = absurd (subst T l tt)
 
 -- what a slice holds after its part from f to f + 6 came back as d
-pub put-part : (l d : List ℕ) (f : ℕ) → take f l ++ (d ++ drop (f + 6 - f) (drop f l)) ≡ take f l ++ (d ++ drop (f + 6) l)
+pub put-part : (l d : List ℕ) (f : ℕ) → take f l ++ (d ++ drop (f + columns - f) (drop f l)) ≡ take f l ++ (d ++ drop (f + columns) l)
 put-part l d f =
-    let e : f + 6 - f ≡ 6 = omega arith in
-    rw (e, drop-drop 6 f l) refl
+    let e : f + columns - f ≡ columns = omega arith in
+    rw (e, drop-drop columns f l) refl
 
 -- a failed test of order, the other way round
 pub not-lt : (a b : ℤ) → ltZ a b ≡ false → leZ b a ≡ true

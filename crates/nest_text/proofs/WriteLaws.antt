@@ -9,7 +9,7 @@ use lib.ListN.{length, getD, take, drop, set, replicate, length-append, length-r
 use lib.Seq.{sets, length-sets, sets-eq}
 use Rattle.integers.specs.Lists.{tab, flatMap-tab-more, flatMap-length}
 use Rattle.nest.specs.Nest.{part}
-use Rattle.nest_text.specs.Fields.{Bytes, textOf, fieldOf, newline}
+use Rattle.nest_text.specs.Fields.{Bytes, numeralOf, fieldOf, newline}
 use Rattle.nest_text.specs.Text.{line}
 use Rattle.nest_text.specs.Stored.{Stored, InColumns}
 use Rattle.nest_text.proofs.FieldLaws.{digits-short, within-neg, within-pos}
@@ -39,8 +39,8 @@ pub stored-as : {old new bs cs : Bytes} {at end : ℕ} → bs ≡ cs → Stored 
 stored-as {old} {new} {bs} {cs} {at} {end} e p = subst (λ (x : Bytes). Stored old at x new end) e p
 
 -- ---- fields
-text-short : (z : ℤ) → InColumns z → length (textOf z) ≤ 6
-unfolding textOf
+text-short : (z : ℤ) → InColumns z → length (numeralOf z) ≤ 6
+unfolding numeralOf
 text-short (pos n) h = omega (arith, digits-short 6 6 n [] (within-pos n h) (omega arith))
 text-short (negsuc n) h = omega (arith, digits-short 5 6 (n + 1) [] (omega (arith, within-neg n h)) (omega arith))
 
@@ -48,7 +48,7 @@ text-short (negsuc n) h = omega (arith, digits-short 5 6 (n + 1) [] (omega (arit
 pub field-length : (z : ℤ) → InColumns z → length (fieldOf z) ≡ 6
 unfolding fieldOf
 field-length z h =
-    length-append (replicate (6 - length (textOf z)) 32) (textOf z) ∙ ap (λ (n : ℕ). n + length (textOf z)) (length-replicate (6 - length (textOf z)) 32)
+    length-append (replicate (6 - length (numeralOf z)) 32) (numeralOf z) ∙ ap (λ (n : ℕ). n + length (numeralOf z)) (length-replicate (6 - length (numeralOf z)) 32)
     ∙ omega (arith, text-short z h)
 
 -- what the field writer leaves

@@ -23,14 +23,31 @@ use Rattle.nest_text.specs.Fields.{Bytes, columns, newline, fieldOf, rea
 unfoldable pub line : List ℤ → Bytes
 line zs = flatMap fieldOf zs ++ (newline ∷ [])
 
+-- the bytes of a line of k fields: their columns, and byte 10
+abbrev pub lineLength : ℕ → ℕ
+lineLength k = columns * k + 1
+
+-- line 1: depth, number of dependences, cube dimension
+abbrev pub headerWidth : ℕ
+headerWidth = 3
+
+-- the line of a loop: lower and upper limit
+abbrev pub limitWidth : ℕ
+limitWidth = 2
+
 -- the numbers of the lines of a nest
 unfoldable pub linesOf : LoopNest → List (List ℤ)
 linesOf s =
     (s .depth ∷ s .count ∷ s .cube ∷ [])
     ∷ (map (λ l. l .lower ∷ l .upper ∷ []) (limitsOf s) ++ (timeOf s ∷ (dependencesOf s ++ ((s .boundary ∷ weightsOf s) ∷ []))))
 
+-- its lines, one after the other
 unfoldable pub textOf : LoopNest → Bytes
 textOf s = flatMap line (linesOf s)
+
+-- how many bytes the text of an accepted nest of n loops with m dependences has
+abbrev pub textLength : ℕ → ℕ → ℕ
+textLength n m = lineLength headerWidth + lineLength limitWidth * n + lineLength n * (m + 1) + lineLength (m + 1)
 
 -- ---- reading
 
@@ -56,7 +73,7 @@ numbersOf k bs = tab (λ i. numberOf (fieldAt bs i)) k
 
 -- the bytes behind it
 abbrev pub behind : ℕ → Bytes → Bytes
-behind k bs = drop (columns * k + 1) bs
+behind k bs = drop (lineLength k) bs
 
 -- lines with these numbers of fields follow one another, and nothing follows the last
 unfoldable pub areLines : List ℕ → Bytes → Bool
@@ -68,13 +85,9 @@ unfoldable pub lineNumbers : List ℕ → Bytes → List (List ℤ)
 lineNumbers [] bs = []
 lineNumbers (k ∷ ks) bs = numbersOf k bs ∷ lineNumbers ks (behind k bs)
 
--- line 1: depth, number of dependences, cube dimension
-abbrev pub headerWidth : ℕ
-headerWidth = 3
-
 -- the numbers of fields of the lines behind line 1: n lines of limits, the time vector, m dependences, boundary value and weights
 unfoldable pub widths : ℕ → ℕ → List ℕ
-widths n m = replicate n 2 ++ (n ∷ (replicate m n ++ ((1 + m) ∷ [])))
+widths n m = replicate n limitWidth ++ (n ∷ (replicate m n ++ ((1 + m) ∷ [])))
 
 abbrev pub at : List ℤ → ℕ → ℤ
 at zs i = getD zs i (pos 0)

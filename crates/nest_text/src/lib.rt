@@ -22,6 +22,9 @@ pub const NEWLINE: u8 = 10;
 // the fields of line 1: depth, number of dependences, cube dimension
 pub const HEADER_FIELDS: usize = 3;
 
+// the fields of a loop's line: lower and upper limit
+pub const LIMIT_FIELDS: usize = 2;
+
 // What a text is read as: the number of the first refusal with a nest of zeros, or 0 with the nest.
 pub struct Reading {
     pub refusal: u8,

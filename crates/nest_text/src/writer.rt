@@ -1,4 +1,10 @@
 // Writing lines, and the text of an accepted nest, into a lent buffer.
+use crate::COLUMNS;
+use crate::HEADER_FIELDS;
+use crate::LIMIT_FIELDS;
+use crate::NEWLINE;
+use crate::fields::write_at;
+use nest::LoopNest;
 ghost use mathlib.Core.Path.{_≡_};
 ghost use mathlib.Core.List.{[], _∷_, flatMap};
 ghost use Prim.Native.Nat.{ℕ, _+_, _*_, _<_, _≤_};
@@ -7,32 +13,34 @@ ghost use lib.ListN.{length, getD};
 ghost use Rattle.integers.specs.Lists.{tab};
 ghost use Rattle.nest.specs.Nest.{part, dependenceAt, depthOf, countOf, maxDepth, maxDependences};
 ghost use Rattle.nest.specs.Refusals.{refusal};
-ghost use Rattle.nest_text.specs.Fields.{fieldOf};
-ghost use Rattle.nest_text.specs.Text.{line, textOf};
+ghost use Rattle.nest_text.specs.Fields.{columns, fieldOf};
+ghost use Rattle.nest_text.specs.Text.{line, textOf, limitWidth, lineLength, textLength};
 ghost use Rattle.nest_text.specs.Stored.{Stored, InColumns, EachInColumns};
-use super::fields::write_at;
-use nest::LoopNest;
 
 // Writes k numbers as fields, one after the other, and answers the place behind them.
 pub fn put_fields(out: &mut [u8], at: usize, numbers: &[i64], from: usize, k: usize) -> usize
-    requires { ⌜ (at + 6 * k ≤ length (now out)) × ((from + k ≤ length (now numbers)) × EachInColumns (now numbers) from k) ⌝ }
-    ensures { λ r. ⌜ Stored (now (out .entry)) at (flatMap fieldOf (part (now (numbers .entry)) from k)) (now (out .exit)) r ⌝ }
+    requires { ⌜ (at + columns * k ≤ length (now out))
+        × ((from + k ≤ length (now numbers)) × EachInColumns (now numbers) from k) ⌝ }
+    ensures { λ r. ⌜ Stored (now (out .entry)) at (flatMap fieldOf (part (now (numbers .entry)) from k))
+        (now (out .exit)) r ⌝ }
 {
     let mut end = at;
     for i in 0..k {
         write_at(out, end, numbers[from + i]);
-        end += 6;
+        end += COLUMNS;
     }
     end
 }
 
 // Writes k numbers as a line: their fields, and byte 10.
 pub fn put_line(out: &mut [u8], at: usize, numbers: &[i64], from: usize, k: usize) -> usize
-    requires { ⌜ (at + (6 * k + 1) ≤ length (now out)) × ((from + k ≤ length (now numbers)) × EachInColumns (now numbers) from k) ⌝ }
-    ensures { λ r. ⌜ Stored (now (out .entry)) at (line (part (now (numbers .entry)) from k)) (now (out .exit)) r ⌝ }
+    requires { ⌜ (at + lineLength k ≤ length (now out))
+        × ((from + k ≤ length (now numbers)) × EachInColumns (now numbers) from k) ⌝ }
+    ensures { λ r. ⌜ Stored (now (out .entry)) at (line (part (now (numbers .entry)) from k))
+        (now (out .exit)) r ⌝ }
 {
     let end = put_fields(out, at, numbers, from, k);
-    out[end] = 10;
+    out[end] = NEWLINE;
     end + 1
 }
 
@@ -44,13 +52,17 @@ pub fn put_limits(
     upper: [i64; LoopNest::MAX_DEPTH],
     n: usize,
 ) -> usize
-    requires { ⌜ (at + 13 * n ≤ length (now out)) × ((n ≤ maxDepth) × ((k : ℕ) → k < n → InColumns (getD lower k (pos 0)) × InColumns (getD upper k (pos 0)))) ⌝ }
-    ensures { λ r. ⌜ Stored (now (out .entry)) at (flatMap line (tab (λ k. getD lower k (pos 0) ∷ getD upper k (pos 0) ∷ []) n)) (now (out .exit)) r ⌝ }
+    requires { ⌜ (at + lineLength limitWidth * n ≤ length (now out))
+        × ((n ≤ maxDepth)
+        × ((k : ℕ) → k < n → InColumns (getD lower k (pos 0)) × InColumns (getD upper k (pos 0)))) ⌝ }
+    ensures { λ r. ⌜ Stored (now (out .entry)) at
+        (flatMap line (tab (λ k. getD lower k (pos 0) ∷ getD upper k (pos 0) ∷ []) n))
+        (now (out .exit)) r ⌝ }
 {
     let mut end = at;
     for k in 0..n {
         let numbers = [lower[k], upper[k]];
-        end = put_line(out, end, &numbers, 0, 2);
+        end = put_line(out, end, &numbers, 0, LIMIT_FIELDS);
     }
     end
 }
@@ -63,8 +75,11 @@ pub fn put_dependences(
     n: usize,
     m: usize,
 ) -> usize
-    requires { ⌜ (at + (6 * n + 1) * m ≤ length (now out)) × ((n ≤ maxDepth) × ((m ≤ maxDependences) × ((i : ℕ) → i < m → EachInColumns dependences (i * maxDepth) n))) ⌝ }
-    ensures { λ r. ⌜ Stored (now (out .entry)) at (flatMap line (tab (dependenceAt dependences n) m)) (now (out .exit)) r ⌝ }
+    requires { ⌜ (at + lineLength n * m ≤ length (now out))
+        × ((n ≤ maxDepth)
+        × ((m ≤ maxDependences) × ((i : ℕ) → i < m → EachInColumns dependences (i * maxDepth) n))) ⌝ }
+    ensures { λ r. ⌜ Stored (now (out .entry)) at (flatMap line (tab (dependenceAt dependences n) m))
+        (now (out .exit)) r ⌝ }
 {
     let mut end = at;
     for i in 0..m {
@@ -81,28 +96,34 @@ pub fn put_last(
     weights: [i64; LoopNest::MAX_DEPENDENCES],
     m: usize,
 ) -> usize
-    requires { ⌜ (at + (6 * (m + 1) + 1) ≤ length (now out)) × ((m ≤ maxDependences) × (InColumns boundary × EachInColumns weights 0 m)) ⌝ }
+    requires { ⌜ (at + lineLength (m + 1) ≤ length (now out))
+        × ((m ≤ maxDependences) × (InColumns boundary × EachInColumns weights 0 m)) ⌝ }
     ensures { λ r. ⌜ Stored (now (out .entry)) at (line (boundary ∷ part weights 0 m)) (now (out .exit)) r ⌝ }
 {
     write_at(out, at, boundary);
-    put_line(out, at + 6, &weights, 0, m)
+    put_line(out, at + COLUMNS, &weights, 0, m)
 }
 
 // How many bytes the text of an accepted nest of depth n with m dependences has.
 pub fn text_length(n: usize, m: usize) -> usize
     requires { ⌜ (n ≤ maxDepth) × (m ≤ maxDependences) ⌝ }
-    ensures { λ r. ⌜ r ≡ 19 + 13 * n + (6 * n + 1) * (m + 1) + (6 * (m + 1) + 1) ⌝ }
+    ensures { λ r. ⌜ r ≡ textLength n m ⌝ }
 {
-    19 + 13 * n + (6 * n + 1) * (m + 1) + (6 * (m + 1) + 1)
+    let first = COLUMNS * HEADER_FIELDS + 1;
+    let limits = (COLUMNS * LIMIT_FIELDS + 1) * n;
+    let vectors = (COLUMNS * n + 1) * (m + 1);
+    let last = COLUMNS * (m + 1) + 1;
+    first + limits + vectors + last
 }
 
 // Writes the text of an accepted nest of depth n with m dependences from the buffer's first byte on.
 pub fn put_text(s: LoopNest, n: usize, m: usize, out: &mut [u8])
-    requires { ⌜ (refusal s ≡ 0) × ((n ≡ depthOf s) × ((m ≡ countOf s) × (length (textOf s) ≤ length (now out)))) ⌝ }
+    requires { ⌜ (refusal s ≡ 0)
+        × ((n ≡ depthOf s) × ((m ≡ countOf s) × (length (textOf s) ≤ length (now out)))) ⌝ }
     ensures { λ r. ⌜ Stored (now (out .entry)) 0 (textOf s) (now (out .exit)) (length (textOf s)) ⌝ }
 {
     let shape = [s.depth, s.count, s.cube];
-    let limits_at = put_line(out, 0, &shape, 0, 3);
+    let limits_at = put_line(out, 0, &shape, 0, HEADER_FIELDS);
     let lower = s.lower;
     let upper = s.upper;
     let time_at = put_limits(out, limits_at, lower, upper, n);

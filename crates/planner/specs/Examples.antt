@@ -18,9 +18,8 @@ use Rattle.nest.specs.Nest.{toℕ, part, limitsOf, timeOf, dependencesOf, weigh
 use Rattle.nest.specs.Points.{extent, indices, points, pointsOf, pointCount, rank, isPoint, source}
 use Rattle.nest.specs.Refusals.{number, outside, crossed, outOfSpan, backward, holds, firstMet, refusal, orElse}
 use Rattle.nest.specs.Sources.{sourceRank}
-use Rattle.nest_text.specs.Fields.{Bytes, blanksOf, allDigits, valueOf, digitsOf, signedOf, readOf, digitsTo, textOf, fieldOf}
-use Rattle.nest_text.specs.Text.{line, linesOf, isLine, numbersOf, areLines, lineNumbers, widths, headed, nestFrom, headerOf, widthsOf, bodyOf, readRefusal, readNest}
-use Rattle.nest_text.specs.Text
+use Rattle.nest_text.specs.Fields.{Bytes, blanksOf, allDigits, valueOf, digitsOf, signedOf, readOf, digitsTo, numeralOf, fieldOf}
+use Rattle.nest_text.specs.Text.{line, linesOf, textOf, isLine, numbersOf, areLines, lineNumbers, widths, headed, nestFrom, headerOf, widthsOf, bodyOf, readRefusal, readNest}
 use Rattle.nest_text.specs.Examples.{bytes, lines}
 use Rattle.grouping.specs.Projection.{projection, divides, makesWhole, multiplier, groupSize}
 use Rattle.integers.specs.Extremes.{leastZ, greatestZ}
@@ -86,7 +85,7 @@ says s (groupingVectorIs v) = eqV (getD (groupingVector (timeOf s) (dependencesO
 says s (chosenAre k) = eqb (chosenCount (timeOf s) (dependencesOf s)) k
 says s (classesAre k) = eqb (length (seeds (frameOf s) (pointsOf s))) k
 says s (projectedPoints k) = eqb (length (firsts eqV (map (projection (timeOf s)) (pointsOf s)))) k
-says s (printed text list) = eqN (Text.textOf s) text && eqN (listing text) list
+says s (printed text list) = eqN (textOf s) text && eqN (listing text) list
 
 -- ---- the table
 pub record Case : Type 0 where
@@ -208,5 +207,5 @@ table =
     ∷ []
 
 pub examples-hold : all (λ c. all (says (c .nest)) (c .facts)) table ≡ true
-unfolding any all first place firstsAfter firsts count repeats tab greatest firstFrom dots plus times eqZ eqV isZeroV floorDiv toℕ part limitsOf timeOf dependencesOf weightsOf padded nestOf emptyNest extent indices points pointsOf pointCount rank isPoint source number outside crossed outOfSpan backward holds firstMet refusal orElse sourceRank blanksOf allDigits valueOf digitsOf signedOf readOf digitsTo textOf fieldOf line linesOf isLine numbersOf areLines lineNumbers widths headed nestFrom headerOf widthsOf bodyOf readRefusal readNest Text.textOf bytes lines projection divides makesWhole multiplier groupSize leastZ step pivot clear remainder mayGroup groupingVector extend chosenVectors chosenCount latest coefficients left isCombination frame directions difference sameClass coordinates seeds eqG quotients classNumber group blocks blockNumber stepsOf stepCount frameOf groupsOf blocksOf blockCount inOrder greatestZ direction undealt takesBit withBit noDirection nextTurn dealBit dealBits dealt gray partOf joined processor directionsOf processorsOf processorCount crosses isMessage total messageCount sourceValue madeOf loop sequential sum weightedSum ruleOf valuesOf countsOf rowOf planLines planText listing eqN below isSome pairs says vector nestWith L1 L2 two one ungrouped uneven listed listedText listedPlan table flatMap zipWith
+unfolding any all first place firstsAfter firsts count repeats tab greatest firstFrom dots plus times eqZ eqV isZeroV floorDiv toℕ part limitsOf timeOf dependencesOf weightsOf padded nestOf emptyNest extent indices points pointsOf pointCount rank isPoint source number outside crossed outOfSpan backward holds firstMet refusal orElse sourceRank blanksOf allDigits valueOf digitsOf signedOf readOf digitsTo numeralOf fieldOf line linesOf isLine numbersOf areLines lineNumbers widths headed nestFrom headerOf widthsOf bodyOf readRefusal readNest textOf bytes lines projection divides makesWhole multiplier groupSize leastZ step pivot clear remainder mayGroup groupingVector extend chosenVectors chosenCount latest coefficients left isCombination frame directions difference sameClass coordinates seeds eqG quotients classNumber group blocks blockNumber stepsOf stepCount frameOf groupsOf blocksOf blockCount inOrder greatestZ direction undealt takesBit withBit noDirection nextTurn dealBit dealBits dealt gray partOf joined processor directionsOf processorsOf processorCount crosses isMessage total messageCount sourceValue madeOf loop sequential sum weightedSum ruleOf valuesOf countsOf rowOf planLines planText listing eqN below isSome pairs says vector nestWith L1 L2 two one ungrouped uneven listed listedText listedPlan table flatMap zipWith
 examples-hold = refl

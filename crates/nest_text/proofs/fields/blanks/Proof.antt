@@ -7,8 +7,6 @@ use Rattle.nest_text.specs.Fields.{blanksOf}
 use Rattle.nest_text.proofs.FieldLaws.{blanks-stop, blanks-more, blanks-end}
 use Rattle.nest_text.proofs.fields.blanks.Statement.{statement}
 use Rattle.nest_text.proofs.fields.blanks.Tie as tie
-use Rattle.nest_text.proofs.fields.blanks.Reads as reads
-use Rattle.nest_text.proofs.fields.blanks.Lts as lts
 
 abbrev Inv-loop : tie.InvT-loop
 Inv-loop f at₀ at = (at ≤ length f) × (blanksOf f ≡ at + blanksOf (drop at f))
@@ -16,31 +14,24 @@ Inv-loop f at₀ at = (at ≤ length f) × (blanksOf f ≡ at + blanksOf (drop a
 abbrev μ-loop : tie.MeasureT-loop
 μ-loop f at₀ at = length f - at
 
--- src/lib.rt:23:5
 loop-holds : tie.Need-loop-holds Inv-loop μ-loop
 loop-holds c = search needs
 
--- src/lib.rt:24:12
 shared-slice-read-if1 : tie.Need-shared-slice-read-if1 Inv-loop μ-loop
 shared-slice-read-if1 c = search needs
 
--- src/lib.rt:25:13
 returns : tie.Need-returns Inv-loop μ-loop
 returns c = omega (arith, blanks-stop (c .before .before .before .before .args .f .now) (c .before .before .before .loop .at) (c .before .before .loop-test .taken) (c .if1 .taken))
 
--- src/lib.rt:27:9
 add-at : tie.Need-add-at Inv-loop μ-loop
 add-at c = search needs
 
--- src/lib.rt:23:5
 loop-less : tie.Need-loop-less Inv-loop μ-loop
 loop-less c = search needs
 
--- src/lib.rt:23:5
 loop-again : tie.Need-loop-again Inv-loop μ-loop
 loop-again c = omega (arith, blanks-more (c .before .before .before .before .args .f .now) (c .before .before .before .loop .at) (c .before .before .loop-test .taken) (c .if1 .left))
 
--- src/lib.rt:19:1
 returns-2 : tie.Need-returns-2 Inv-loop μ-loop
 returns-2 c =
     let e : c .before .loop .at ≡ length (c .before .before .args .f .now) = omega arith in

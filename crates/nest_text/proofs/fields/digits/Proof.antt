@@ -7,15 +7,11 @@ use borrow.Author.Tests.{not-true, not-false, lt-leb, le-leb}
 use lib.Dec.{lit<}
 use lib.ListN.{length, drop, getD}
 use denote.Ref.{now}
-use Rattle.nest_text.specs.Fields.{digitsOf, allDigits, valueOf, isDigit}
+use Rattle.nest_text.specs.Fields.{zeroDigit, nineDigit, digitsOf, allDigits, valueOf, isDigit}
 use Rattle.nest_text.proofs.FieldLaws.{digits-more, value-more, digits-end, value-end, pow-add-one}
 use native.Mathlib.Nat.{lt-of-lt-of-le, pow-le-pow-right}
 use Rattle.nest_text.proofs.fields.digits.Statement.{statement}
 use Rattle.nest_text.proofs.fields.digits.Tie as tie
-use Rattle.nest_text.proofs.fields.digits.Reads as reads
-use Rattle.nest_text.proofs.fields.digits.Lts as lts
-use Rattle.nest_text.proofs.fields.digit.Reads as digit-reads
-use Rattle.nest_text.proofs.fields.well_led.Reads as well-led-reads
 
 abbrev Inv-loop : tie.InvT-loop
 Inv-loop d n value₀ k₀ value k = (k ≤ length d) × ((allDigits d ≡ allDigits (drop k d)) × ((valueOf 0 d ≡ valueOf value (drop k d)) × (value < 10 ^ k)))
@@ -23,44 +19,37 @@ Inv-loop d n value₀ k₀ value k = (k ≤ length d) × ((allDigits d ≡ allDi
 abbrev μ-loop : tie.MeasureT-loop
 μ-loop d n value₀ k₀ value k = length d - k
 
--- src/lib.rt:58:9
 well-led-requires : tie.Need-well-led-requires Inv-loop μ-loop
 well-led-requires c κs = search needs
 
--- src/lib.rt:59:9
 returns : tie.Need-returns Inv-loop μ-loop
 unfolding digitsOf
 returns c = simp (sym (c .before .well-led .ensures) ∙ not-true _ (c .if1 .taken))
 
--- src/lib.rt:63:5
 loop-holds : tie.Need-loop-holds Inv-loop μ-loop
 loop-holds c = (omega arith, (refl, (refl, lit< tt)))
 
--- src/lib.rt:64:17
 shared-slice-read-b : tie.Need-shared-slice-read-b Inv-loop μ-loop
 shared-slice-read-b c = search needs
 
--- src/lib.rt:66:13
 returns-2 : tie.Need-returns-2 Inv-loop μ-loop
 unfolding digitsOf
 returns-2 c =
     let l = c .before .before .before .before .before .before .before .args .d .now in
     let k = c .before .before .before .loop .k in
     let led = sym (c .before .before .before .before .before .well-led .ensures) ∙ not-false _ (c .before .before .before .before .if1 .left) in
-    let none : allDigits l ≡ false = c .before .before .before .loop .inv .1 .0 ∙ (digits-more l k (c .before .before .loop-test .taken) ∙ simp (lt-leb 48 (getD l k 0) (c .if2 .taken))) in
+    let none : allDigits l ≡ false = c .before .before .before .loop .inv .1 .0 ∙ (digits-more l k (c .before .before .loop-test .taken) ∙ simp (lt-leb zeroDigit (getD l k 0) (c .if2 .taken))) in
     simp (led, none)
 
--- src/lib.rt:69:13
 returns-3 : tie.Need-returns-3 Inv-loop μ-loop
 unfolding digitsOf
 returns-3 c =
     let l = c .before .before .before .before .before .before .before .before .args .d .now in
     let k = c .before .before .before .before .loop .k in
     let led = sym (c .before .before .before .before .before .before .well-led .ensures) ∙ not-false _ (c .before .before .before .before .before .if1 .left) in
-    let none : allDigits l ≡ false = c .before .before .before .before .loop .inv .1 .0 ∙ (digits-more l k (c .before .before .before .loop-test .taken) ∙ simp (le-leb 48 (getD l k 0) (c .before .if2 .left), lt-leb (getD l k 0) 57 (c .if3 .taken))) in
+    let none : allDigits l ≡ false = c .before .before .before .before .loop .inv .1 .0 ∙ (digits-more l k (c .before .before .before .loop-test .taken) ∙ simp (le-leb zeroDigit (getD l k 0) (c .before .if2 .left), lt-leb (getD l k 0) nineDigit (c .if3 .taken))) in
     simp (led, none)
 
--- src/lib.rt:71:17
 -- the value so far is below a million
 small : (c : tie.In-loop Inv-loop μ-loop) → c .before .loop .value < 100000
 small c = lt-of-lt-of-le (c .before .loop .inv .1 .1 .1) (pow-le-pow-right {n = 10} (lit< tt) {j = 5} (omega arith))
@@ -68,30 +57,25 @@ small c = lt-of-lt-of-le (c .before .loop .inv .1 .1 .1) (pow-le-pow-right {n = 
 mul-value : tie.Need-mul-value Inv-loop μ-loop
 mul-value c = omega (arith, small (c .before .before .before))
 
--- src/lib.rt:71:30
 digit-requires : tie.Need-digit-requires Inv-loop μ-loop
 digit-requires c κs = search needs
 
--- src/lib.rt:71:17
 add-value : tie.Need-add-value Inv-loop μ-loop
 add-value c = omega (arith, small (c .before .before .before .before))
 
--- src/lib.rt:63:9
 add-k : tie.Need-add-k Inv-loop μ-loop
 add-k c = search needs
 
--- src/lib.rt:63:5
 loop-less : tie.Need-loop-less Inv-loop μ-loop
 loop-less c = search needs
 
--- src/lib.rt:63:5
 loop-again : tie.Need-loop-again Inv-loop μ-loop
 loop-again c =
     let l = c .before .before .before .before .before .before .before .before .before .args .d .now in
     let k = c .before .before .before .before .before .loop .k in
     let v = c .before .before .before .before .before .loop .value in
-    let d : isDigit (getD l k 0) ≡ true = simp (le-leb 48 (getD l k 0) (c .before .before .if2 .left), le-leb (getD l k 0) 57 (c .before .if3 .left)) in
-    let e : c .digit .result ≡ getD l k 0 - 48 = omega arith in (
+    let d : isDigit (getD l k 0) ≡ true = simp (le-leb zeroDigit (getD l k 0) (c .before .before .if2 .left), le-leb (getD l k 0) nineDigit (c .before .if3 .left)) in
+    let e : c .digit .result ≡ getD l k 0 - zeroDigit = omega arith in (
       omega arith,
       (
         c .before .before .before .before .before .loop .inv .1 .0 ∙ (digits-more l k (c .before .before .before .before .loop-test .taken) ∙ simp d),
@@ -102,7 +86,6 @@ loop-again c =
       ),
     )
 
--- src/lib.rt:54:1
 returns-4 : tie.Need-returns-4 Inv-loop μ-loop
 unfolding digitsOf
 returns-4 c =

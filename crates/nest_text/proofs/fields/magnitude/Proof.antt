@@ -7,11 +7,10 @@ use lib.Signed.{nonNeg}
 use mir.Syntax.{w64}
 use mir.Val.{toZ, ofZ}
 use mir.Facts.{toZ-ofZ}
+use Rattle.nest_text.specs.Fields.{sevenDigits}
 use Rattle.nest_text.proofs.FieldLaws.{Sized, sized-neg, sized-pos, back}
 use Rattle.nest_text.proofs.fields.magnitude.Statement.{statement}
 use Rattle.nest_text.proofs.fields.magnitude.Tie as tie
-use Rattle.nest_text.proofs.fields.magnitude.Reads as reads
-use Rattle.nest_text.proofs.fields.magnitude.Lts as lts
 
 abbrev number : tie.Then1 → ℤ
 number c = c .before .args .z
@@ -31,7 +30,7 @@ sub-result c = rw (again c) (record { sfits = known c .small })
 cast-result : tie.Need-cast-result
 cast-result c = simp (again c, turned c) (known c .plus, record { fits = omega (arith, known c .same, known c .million) })
 
-known-pos : (c : tie.Else1) → T (nonNeg (c .before .args .z)) × (natAbs (c .before .args .z) < 1000000)
+known-pos : (c : tie.Else1) → T (nonNeg (c .before .args .z)) × (natAbs (c .before .args .z) < sevenDigits)
 known-pos c = sized-pos (c .before .args .z) (c .before .pre) (rw (toZ-ofZ (c .before .fits .z)) at (c .if1 .left))
 
 cast-result-2 : tie.Need-cast-result-2

@@ -5,23 +5,19 @@ use Prim.Native.Nat.{ℕ, _-_, _+_, _/_, _%_, _≤_, _<_, _^_}
 use native.Mathlib.Omega.{arith}
 use lib.ListN.{length, set, drop, take, length-set, length-drop, take-append-drop}
 use lib.Seq.{drop-length}
-use Rattle.nest_text.specs.Fields.{digitsTo}
+use Rattle.nest_text.specs.Fields.{columns, zeroDigit, digitsTo}
 use Rattle.nest_text.proofs.FieldLaws.{drop-set-here, take-set-before, two-digits, tenth, digits-ten, digits-last}
 use Rattle.nest_text.proofs.fields.put_digits.Statement.{statement}
 use Rattle.nest_text.proofs.fields.put_digits.Tie as tie
-use Rattle.nest_text.proofs.fields.put_digits.Reads as reads
-use Rattle.nest_text.proofs.fields.put_digits.Lts as lts
-use Rattle.nest_text.proofs.fields.digit_byte.Reads as digit-byte-reads
 
 abbrev Inv-loop : tie.InvT-loop
-Inv-loop out₀ n at₀ rest₀ out at rest = ((1 ≤ at) × (at ≤ 6)) × ((length out ≡ 6) × ((take at out ≡ take at out₀) × ((rest < 10 ^ at) × (digitsTo 6 n [] ≡ digitsTo at rest (drop at out)))))
+Inv-loop out₀ n at₀ rest₀ out at rest = ((1 ≤ at) × (at ≤ columns)) × ((length out ≡ columns) × ((take at out ≡ take at out₀) × ((rest < 10 ^ at) × (digitsTo columns n [] ≡ digitsTo at rest (drop at out)))))
 
 abbrev μ-loop : tie.MeasureT-loop
 μ-loop out₀ n at₀ rest₀ out at rest = at
 
--- src/lib.rt:132:5
 -- one column to the left: what a store there leaves
-module _ (out out₀ : List ℕ) (at rest n v : ℕ) (one : 1 ≤ at) (six : at ≤ 6) (long : length out ≡ 6) (e : take at out ≡ take at out₀) where
+module _ (out out₀ : List ℕ) (at rest n v : ℕ) (one : 1 ≤ at) (six : at ≤ columns) (long : length out ≡ columns) (e : take at out ≡ take at out₀) where
   here : at ≡ at - 1 + 1
   here = omega arith
 
@@ -34,11 +30,11 @@ module _ (out out₀ : List ℕ) (at rest n v : ℕ) (one : 1 ≤ at) (six : at 
   less : rest < 10 ^ at → rest / 10 < 10 ^ (at - 1)
   less h = tenth rest (at - 1) (subst (λ (k : ℕ). rest < 10 ^ k) here h)
 
-  more : 10 ≤ rest → v ≡ 48 + rest % 10 → digitsTo at rest (drop at out) ≡ digitsTo (at - 1) (rest / 10) (drop (at - 1) (set out (at - 1) v))
-  more h p = subst (λ (k : ℕ). digitsTo k rest (drop at out) ≡ digitsTo (at - 1) (rest / 10) ((48 + rest % 10) ∷ drop at out)) (sym here) (digits-ten rest (at - 1) (drop at out) h) ∙ rw (rest-of, p) refl
+  more : 10 ≤ rest → v ≡ zeroDigit + rest % 10 → digitsTo at rest (drop at out) ≡ digitsTo (at - 1) (rest / 10) (drop (at - 1) (set out (at - 1) v))
+  more h p = subst (λ (k : ℕ). digitsTo k rest (drop at out) ≡ digitsTo (at - 1) (rest / 10) ((zeroDigit + rest % 10) ∷ drop at out)) (sym here) (digits-ten rest (at - 1) (drop at out) h) ∙ rw (rest-of, p) refl
 
-  last : rest < 10 → v ≡ 48 + rest % 10 → digitsTo at rest (drop at out) ≡ drop (at - 1) (set out (at - 1) v)
-  last h p = subst (λ (k : ℕ). digitsTo k rest (drop at out) ≡ (48 + rest % 10) ∷ drop at out) (sym here) (digits-last rest (at - 1) (drop at out) h) ∙ rw (rest-of, p) refl
+  last : rest < 10 → v ≡ zeroDigit + rest % 10 → digitsTo at rest (drop at out) ≡ drop (at - 1) (set out (at - 1) v)
+  last h p = subst (λ (k : ℕ). digitsTo k rest (drop at out) ≡ (zeroDigit + rest % 10) ∷ drop at out) (sym here) (digits-last rest (at - 1) (drop at out) h) ∙ rw (rest-of, p) refl
 
 loop-holds : tie.Need-loop-holds Inv-loop μ-loop
 loop-holds c =
@@ -47,23 +43,18 @@ loop-holds c =
     let e = c .before .pre .0 in
     ((omega arith, omega arith), (e, (refl, (rw e (c .before .pre .1), rw (drop-length o, e) refl))))
 
--- src/lib.rt:133:9
 sub-at : tie.Need-sub-at Inv-loop μ-loop
 sub-at c = omega arith
 
--- src/lib.rt:134:19
 digit-byte-requires : tie.Need-digit-byte-requires Inv-loop μ-loop
 digit-byte-requires c κs = search needs
 
--- src/lib.rt:134:9
 slice-write-out : tie.Need-slice-write-out Inv-loop μ-loop
 slice-write-out c = omega arith
 
--- src/lib.rt:132:5
 loop-less : tie.Need-loop-less Inv-loop μ-loop
 loop-less c = omega arith
 
--- src/lib.rt:132:5
 loop-again : tie.Need-loop-again Inv-loop μ-loop
 loop-again c =
     let v = c .digit-byte .result in
@@ -71,28 +62,23 @@ loop-again c =
     let two = two-digits (c .before .before .loop .rest) (c .before .before .loop .at) (c .before .loop-test .taken) (i .1 .1 .1 .0) in
     ((omega arith, omega arith), (simp length-set (i .1 .0), (kept (c .before .before .loop .out) (c .before .before .before .before .args .out .now) (c .before .before .loop .at) (c .before .before .loop .rest) (c .before .before .before .before .args .n) v (c .before .before .loop .inv .0 .0) (c .before .before .loop .inv .0 .1) (c .before .before .loop .inv .1 .0) (c .before .before .loop .inv .1 .1 .0), (less (c .before .before .loop .out) (c .before .before .before .before .args .out .now) (c .before .before .loop .at) (c .before .before .loop .rest) (c .before .before .before .before .args .n) v (c .before .before .loop .inv .0 .0) (c .before .before .loop .inv .0 .1) (c .before .before .loop .inv .1 .0) (c .before .before .loop .inv .1 .1 .0) (i .1 .1 .1 .0), i .1 .1 .1 .1 ∙ more (c .before .before .loop .out) (c .before .before .before .before .args .out .now) (c .before .before .loop .at) (c .before .before .loop .rest) (c .before .before .before .before .args .n) v (c .before .before .loop .inv .0 .0) (c .before .before .loop .inv .0 .1) (c .before .before .loop .inv .1 .0) (c .before .before .loop .inv .1 .1 .0) (c .before .loop-test .taken) (c .digit-byte .ensures)))))
 
--- src/lib.rt:137:5
 sub-at-2 : tie.Need-sub-at-2 Inv-loop μ-loop
 sub-at-2 c = omega arith
 
--- src/lib.rt:138:15
 digit-byte-requires-2 : tie.Need-digit-byte-requires-2 Inv-loop μ-loop
 digit-byte-requires-2 c κs = search needs
 
--- src/lib.rt:138:5
 slice-write-out-2 : tie.Need-slice-write-out-2 Inv-loop μ-loop
 slice-write-out-2 c = omega arith
 
--- src/lib.rt:126:1
 same-length : tie.Need-same-length Inv-loop μ-loop
 same-length c = simp length-set (omega arith)
 
--- src/lib.rt:126:1
 returns : tie.Need-returns Inv-loop μ-loop
 returns c =
     let v = c .digit-byte2 .result in
     let i = c .before .before .loop .inv in
-    let all : digitsTo 6 (c .before .before .before .before .args .n) [] ≡ drop (c .before .before .loop .at - 1) (set (c .before .before .loop .out) (c .before .before .loop .at - 1) v) = i .1 .1 .1 .1 ∙ last (c .before .before .loop .out) (c .before .before .before .before .args .out .now) (c .before .before .loop .at) (c .before .before .loop .rest) (c .before .before .before .before .args .n) v (c .before .before .loop .inv .0 .0) (c .before .before .loop .inv .0 .1) (c .before .before .loop .inv .1 .0) (c .before .before .loop .inv .1 .1 .0) (c .before .loop-test .left) (c .digit-byte2 .ensures) in
+    let all : digitsTo columns (c .before .before .before .before .args .n) [] ≡ drop (c .before .before .loop .at - 1) (set (c .before .before .loop .out) (c .before .before .loop .at - 1) v) = i .1 .1 .1 .1 ∙ last (c .before .before .loop .out) (c .before .before .before .before .args .out .now) (c .before .before .loop .at) (c .before .before .loop .rest) (c .before .before .before .before .args .n) v (c .before .before .loop .inv .0 .0) (c .before .before .loop .inv .0 .1) (c .before .before .loop .inv .1 .0) (c .before .before .loop .inv .1 .1 .0) (c .before .loop-test .left) (c .digit-byte2 .ensures) in
     (rw (all, ← kept (c .before .before .loop .out) (c .before .before .before .before .args .out .now) (c .before .before .loop .at) (c .before .before .loop .rest) (c .before .before .before .before .args .n) v (c .before .before .loop .inv .0 .0) (c .before .before .loop .inv .0 .1) (c .before .before .loop .inv .1 .0) (c .before .before .loop .inv .1 .1 .0)) (sym (take-append-drop (c .before .before .loop .at - 1) (set (c .before .before .loop .out) (c .before .before .loop .at - 1) v))), (omega arith, rw all (simp (length-drop, length-set) (omega arith))))
 
 pub put-digits-spec : {M : Type 1} → statement M

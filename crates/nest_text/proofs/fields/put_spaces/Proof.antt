@@ -5,44 +5,36 @@ use native.Mathlib.Omega.{arith}
 use lib.ListN.{length, set, drop, replicate, length-set}
 use lib.Seq.{drop-length}
 use borrow.Author.Fill.{fill-more}
+use Rattle.nest_text.specs.Fields.{space}
 use Rattle.nest_text.proofs.fields.put_spaces.Statement.{statement}
 use Rattle.nest_text.proofs.fields.put_spaces.Tie as tie
-use Rattle.nest_text.proofs.fields.put_spaces.Reads as reads
-use Rattle.nest_text.proofs.fields.put_spaces.Lts as lts
 
 abbrev Inv-loop : tie.InvT-loop
-Inv-loop out₀ k₀ k-end out k = (k ≤ length out₀) × (out ≡ replicate k 32 ++ drop k out₀) × (length out ≡ length out₀)
+Inv-loop out₀ k₀ k-end out k = (k ≤ length out₀) × (out ≡ replicate k space ++ drop k out₀) × (length out ≡ length out₀)
 
 abbrev μ-loop : tie.MeasureT-loop
 μ-loop out₀ k₀ k-end out k = k-end - k
 
--- src/lib.rt:145:5
 loop-holds : tie.Need-loop-holds Inv-loop μ-loop
 loop-holds c = (omega arith, refl, refl)
 
--- src/lib.rt:146:9
 slice-write-out : tie.Need-slice-write-out Inv-loop μ-loop
 slice-write-out c = omega arith
 
--- src/lib.rt:145:9
 add-k : tie.Need-add-k Inv-loop μ-loop
 add-k c = omega arith
 
--- src/lib.rt:145:5
 loop-less : tie.Need-loop-less Inv-loop μ-loop
 loop-less c = omega arith
 
--- src/lib.rt:145:5
 loop-again : tie.Need-loop-again Inv-loop μ-loop
 loop-again c =
     let l = c .before .loop in
-    (omega arith, ap (λ (x : List ℕ). set x (l .k) 32) (l .inv .1) ∙ fill-more (l .k) 32 (c .before .before .args .out .now) (omega arith), length-set (l .out) (l .k) 32 ∙ l .inv .2)
+    (omega arith, ap (λ (x : List ℕ). set x (l .k) space) (l .inv .1) ∙ fill-more (l .k) space (c .before .before .args .out .now) (omega arith), length-set (l .out) (l .k) space ∙ l .inv .2)
 
--- src/lib.rt:142:1
 same-length : tie.Need-same-length Inv-loop μ-loop
 same-length c = c .before .loop .inv .2
 
--- src/lib.rt:142:1
 returns : tie.Need-returns Inv-loop μ-loop
 returns c =
     let o = c .before .before .args .out .now in

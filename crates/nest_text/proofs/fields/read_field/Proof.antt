@@ -6,32 +6,22 @@ use Rattle.nest_text.specs.Fields.{signedOf, readOf}
 use Rattle.nest_text.proofs.FieldLaws.{rest-part}
 use Rattle.nest_text.proofs.fields.read_field.Statement.{statement}
 use Rattle.nest_text.proofs.fields.read_field.Tie as tie
-use Rattle.nest_text.proofs.fields.read_field.Reads as reads
-use Rattle.nest_text.proofs.fields.read_field.Lts as lts
-use Rattle.nest_text.proofs.fields.blanks.Reads as blanks-reads
-use Rattle.nest_text.proofs.fields.signed.Reads as signed-reads
 
--- src/lib.rt:103:9
 blanks-requires : tie.Need-blanks-requires
 blanks-requires c κs = search needs
 
--- src/lib.rt:104:12
 sub-signed : tie.Need-sub-signed
 sub-signed c = search needs
 
--- src/lib.rt:104:12
 part-signed-start : tie.Need-part-signed-start
 part-signed-start c = search needs
 
--- src/lib.rt:104:12
 part-signed-end : tie.Need-part-signed-end
 part-signed-end c = search needs
 
--- src/lib.rt:104:5
 signed-requires : tie.Need-signed-requires
 signed-requires c κs = search needs
 
--- src/lib.rt:99:1
 returns : tie.Need-returns
 unfolding readOf
 returns c =

@@ -13,73 +13,58 @@ use mir.Syntax.{w64}
 use mir.Val.{toZ}
 use mir.Facts.{toZ-pos}
 use Rattle.nest_text.specs.declared.fields.Run.the-variants.{Value, NoDigits}
-use Rattle.nest_text.specs.Fields.{signedOf, digitsOf}
-use Rattle.nest_text.proofs.FieldLaws.{empty, tail-part, minus, mag-negpos, back}
+use Rattle.nest_text.specs.Fields.{minus, signedOf, digitsOf}
+use Rattle.nest_text.proofs.FieldLaws.{empty, tail-part, minus-is, mag-negpos, back}
 use Rattle.nest_text.proofs.fields.signed.Statement.{statement}
 use Rattle.nest_text.proofs.fields.signed.Tie as tie
-use Rattle.nest_text.proofs.fields.signed.Reads as reads
-use Rattle.nest_text.proofs.fields.signed.Lts as lts
-use Rattle.nest_text.proofs.fields.digits.Reads as digits-reads
 
--- src/lib.rt:81:9
 returns : tie.Need-returns
 unfolding signedOf digitsOf
 returns c =
     let l = c .before .before .args .d .now in
     rw (empty l (omega arith)) refl
 
--- src/lib.rt:83:8
 shared-slice-read-if2 : tie.Need-shared-slice-read-if2
 shared-slice-read-if2 c = search needs
 
--- src/lib.rt:84:36
 sub-digits : tie.Need-sub-digits
 sub-digits c = search needs
 
--- src/lib.rt:84:36
 part-digits-start : tie.Need-part-digits-start
 part-digits-start c = search needs
 
--- src/lib.rt:84:36
 part-digits-end : tie.Need-part-digits-end
 part-digits-end c = search needs
 
--- src/lib.rt:84:29
 digits-requires : tie.Need-digits-requires
 digits-requires c κs = search needs
 
--- src/lib.rt:84:24
 enum-known-n : tie.Need-enum-known-n
 enum-known-n c = search needs
 
--- src/lib.rt:85:13
 enum-told : tie.Need-enum-told
 enum-told c = search needs
 
--- src/lib.rt:85:13
 returns-2 : tie.Need-returns-2
 unfolding signedOf
 returns-2 c =
     let l = c .before .before .before .before .before .before .before .before .args .d .now in
-    let m : eqb (getD l 0 0) 45 ≡ true = eq-eqb (getD l 0 0) 45 (c .before .before .before .before .if2 .taken) in
+    let m : eqb (getD l 0 0) minus ≡ true = eq-eqb (getD l 0 0) minus (c .before .before .before .before .if2 .taken) in
     let e : digitsOf (drop 1 l) ≡ NoDigits = sym (c .before .before .digits .ensures ∙ ap digitsOf (tail-part l)) ∙ c .enum-told .given .1 in
     simp (m, e)
 
--- src/lib.rt:88:13
 returns-3 : tie.Need-returns-3
 unfolding signedOf
 returns-3 c =
     let n = c .before .before .n .given .0 .0 in
     let l = c .before .before .before .before .before .before .before .before .before .before .args .d .now in
-    let m : eqb (getD l 0 0) 45 ≡ true = eq-eqb (getD l 0 0) 45 (c .before .before .before .before .before .before .if2 .taken) in
+    let m : eqb (getD l 0 0) minus ≡ true = eq-eqb (getD l 0 0) minus (c .before .before .before .before .before .before .if2 .taken) in
     let e : digitsOf (drop 1 l) ≡ Value n = sym (c .before .before .before .before .digits .ensures ∙ ap digitsOf (tail-part l)) ∙ c .before .before .n .given .1 in
     simp (m, e, eq-eqb n 0 (c .if3 .taken))
 
--- src/lib.rt:90:27
 cast-t15 : tie.Need-cast-t15
 cast-t15 c = search needs
 
--- src/lib.rt:90:23
 number : (c : tie.Else3) → toZ w64 (c .before .before .n .given .0 .0) ≡ pos (c .before .before .n .given .0 .0)
 number c = toZ-pos w64 (omega arith)
 
@@ -87,50 +72,43 @@ small : (c : tie.Else3) → mag (negℤ (pos (c .before .before .n .given .0 .0)
 small c = lt-of-le-of-lt (mag-negpos (c .before .before .n .given .0 .0)) (omega arith)
 
 sub-t16 : tie.Need-sub-t16
-sub-t16 c = rw (number c, minus (c .before .before .n .given .0 .0)) (record { sfits = small c })
+sub-t16 c = rw (number c, minus-is (c .before .before .n .given .0 .0)) (record { sfits = small c })
 
--- src/lib.rt:92:29
 digits-requires-2 : tie.Need-digits-requires-2
 digits-requires-2 c κs = search needs
 
--- src/lib.rt:92:24
 enum-known-n-2 : tie.Need-enum-known-n-2
 enum-known-n-2 c = search needs
 
--- src/lib.rt:93:13
 enum-told-2 : tie.Need-enum-told-2
 enum-told-2 c = search needs
 
--- src/lib.rt:93:13
 returns-4 : tie.Need-returns-4
 unfolding signedOf
 returns-4 c =
     let l = c .before .before .before .before .before .before .before .args .d .now in
-    let m : eqb (getD l 0 0) 45 ≡ false = ne-eqb (getD l 0 0) 45 (c .before .before .before .if2 .left) in
+    let m : eqb (getD l 0 0) minus ≡ false = ne-eqb (getD l 0 0) minus (c .before .before .before .if2 .left) in
     let e : digitsOf l ≡ NoDigits = sym (c .before .before .digits2 .ensures) ∙ c .enum-told2 .given .1 in
     simp (m, e)
 
--- src/lib.rt:95:23
 cast-t18 : tie.Need-cast-t18
 cast-t18 c = search needs
 
--- src/lib.rt:76:1
 returns-5 : tie.Need-returns-5
 unfolding signedOf
 returns-5 c =
     let n = c .before .before .n .given .0 .0 in
     let l = c .before .before .before .before .before .before .before .before .before .before .args .d .now in
-    let m : eqb (getD l 0 0) 45 ≡ true = eq-eqb (getD l 0 0) 45 (c .before .before .before .before .before .before .if2 .taken) in
+    let m : eqb (getD l 0 0) minus ≡ true = eq-eqb (getD l 0 0) minus (c .before .before .before .before .before .before .if2 .taken) in
     let e : digitsOf (drop 1 l) ≡ Value n = sym (c .before .before .before .before .digits .ensures ∙ ap digitsOf (tail-part l)) ∙ c .before .before .n .given .1 in
-    simp (m, e, ne-eqb n 0 (c .if3 .left), number c, minus n, back {z = negℤ (pos n)} (small c))
+    simp (m, e, ne-eqb n 0 (c .if3 .left), number c, minus-is n, back {z = negℤ (pos n)} (small c))
 
--- src/lib.rt:76:1
 returns-6 : tie.Need-returns-6
 unfolding signedOf
 returns-6 c =
     let n = c .before .n2 .given .0 .0 in
     let l = c .before .before .before .before .before .before .before .before .args .d .now in
-    let m : eqb (getD l 0 0) 45 ≡ false = ne-eqb (getD l 0 0) 45 (c .before .before .before .before .if2 .left) in
+    let m : eqb (getD l 0 0) minus ≡ false = ne-eqb (getD l 0 0) minus (c .before .before .before .before .if2 .left) in
     let e : digitsOf l ≡ Value n = sym (c .before .before .before .digits2 .ensures) ∙ c .before .n2 .given .1 in
     simp (m, e, toZ-pos w64 {n = n} (omega arith))
 

@@ -4,44 +4,34 @@ use mathlib.Core.List.{List, _++_}
 use Prim.Native.Nat.{ℕ, _+_}
 use lib.ListN.{take, drop}
 use mir.Facts.{toZ-ofZ}
-use Rattle.nest_text.specs.Fields.{fieldOf}
+use Rattle.nest_text.specs.Fields.{columns, fieldOf}
 use Rattle.nest_text.proofs.FieldLaws.{put-part}
 use Rattle.nest_text.proofs.fields.write_at.Statement.{statement}
 use Rattle.nest_text.proofs.fields.write_at.Tie as tie
-use Rattle.nest_text.proofs.fields.write_at.Reads as reads
-use Rattle.nest_text.proofs.fields.write_at.Lts as lts
-use Rattle.nest_text.proofs.fields.write_field.Reads as write-field-reads
 
--- src/lib.rt:185:14
 add-to : tie.Need-add-to
 add-to c = search needs
 
--- src/lib.rt:186:17
 sub-write-field : tie.Need-sub-write-field
 sub-write-field c = search needs
 
--- src/lib.rt:186:17
 part-write-field-start : tie.Need-part-write-field-start
 part-write-field-start c = search needs
 
--- src/lib.rt:186:17
 part-write-field-end : tie.Need-part-write-field-end
 part-write-field-end c = search needs
 
--- src/lib.rt:186:5
 write-field-requires : tie.Need-write-field-requires
 write-field-requires c κs = search needs
 
--- src/lib.rt:181:1
 same-length : tie.Need-same-length
 same-length c = search needs
 
--- src/lib.rt:181:1
 returns : tie.Need-returns
 returns c =
     let a = c .before .before .before .before .before .args in
     let e : c .before .before .write-field .last .0 ≡ fieldOf (a .z) = c .before .before .write-field .ensures ∙ ap fieldOf (toZ-ofZ (c .before .before .before .before .before .fits .z)) in
-    put-part (a .line .now) (c .before .before .write-field .last .0) (a .from) ∙ ap (λ (d : List ℕ). take (a .from) (a .line .now) ++ (d ++ drop (a .from + 6) (a .line .now))) e
+    put-part (a .line .now) (c .before .before .write-field .last .0) (a .from) ∙ ap (λ (d : List ℕ). take (a .from) (a .line .now) ++ (d ++ drop (a .from + columns) (a .line .now))) e
 
 pub write-at-spec : {M : Type 1} → statement M
 write-at-spec =
