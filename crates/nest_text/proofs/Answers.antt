@@ -3,7 +3,7 @@
 use mathlib.Core.Path.{_≡_, refl, sym, ap, ap₂, subst, _∙_}
 use mathlib.Core.Bool.{true, false}
 use mathlib.Core.Logic.{inl, inr, _↔_}
-use mathlib.Core.List.{List, [], _∷_, _++_, map}
+use mathlib.Core.List.{List, [], _∷_, _++_, List·Memᴰ}
 use Prim.Native.Nat.{ℕ, _<_}
 use native.Mathlib.Omega.{arith}
 use lib.IntN.{ℤ}
@@ -14,11 +14,13 @@ use Rattle.nest.specs.Nest.{toℕ, depthOf, countOf}
 use Rattle.nest.specs.Refusals.{Refusal, number, firstMet, headerOrder, bodyOrder, refusal, Condition, Order, Answered, orderNumbers, FromOne, numbered}
 use Rattle.nest.proofs.Answers.{answered-append, one-append, numbered-answered, numbered-one, call-one, buffer-answered}
 use Rattle.nest_text.specs.Fields.{Bytes}
-use Rattle.nest_text.specs.Text.{textOf, isLine, behind, areLines, headerWidth, widths, headed, headerOf, widthsOf, bodyOf, malformedUnless, readRefusal, writeRefusal, writeOrder}
-use Rattle.nest_text.specs.Form.{Begins, Consists, LineMalformed, LineMeets, RestMalformed, NestMeets, readOrder}
-use Rattle.nest_text.proofs.LineBack.{lines-iff, read-begins, begins-read}
+use Rattle.nest_text.specs.Text.{textOf, numbersOf, behind, headerWidths, shapesOf, fits, isHeaded, headerWidthOf, headerNumbers, headed, headerOf}
+use Rattle.nest_text.specs.Text.{restOf, isShaped, bodyOf, malformedUnless, readRefusal, writeRefusal, writeOrder}
+use Rattle.nest_text.specs.Form.{FirstLine, LineMalformed, LineMeets, Shaped, RestMalformed, NestMeets, readOrder}
+use Rattle.nest_text.proofs.LineBack.{numbers-length, read-begins, begins-read, shapes-iff}
+use Rattle.nest_text.proofs.ShapeLaws.{one-listed, header-line, header-listed, listed-header, header-width}
 use Rattle.nest_text.proofs.ReadLaws.{form-kept, header-checked}
-use Rattle.nest_text.proofs.RoundTrip.{header-is, whole-body, body-whole}
+use Rattle.nest_text.proofs.RoundTrip.{whole-body, body-whole}
 
 -- `write`: 2 to 13, then 14
 pub write-answered : (s : LoopNest) (room : ℕ) → Answered (writeOrder s room) (writeRefusal (refusal s) (textOf s) room)
@@ -32,76 +34,76 @@ write-one s room = call-one s ((14, room < length (textOf s)) ∷ []) (omega ari
 -- ---- `read`: line 1
 
 module _ (bs : Bytes) where
-  -- line 1 in form begins the text
-  begins : isLine headerWidth bs ≡ true → Begins bs (headerOf bs .depth ∷ headerOf bs .count ∷ headerOf bs .cube ∷ []) (behind headerWidth bs)
-  begins t = subst (λ zs. Begins bs zs (behind headerWidth bs)) (sym (header-is bs)) (read-begins headerWidth bs t)
+  -- line 1 in form says what is read of it
+  says-line : isHeaded bs ≡ true → FirstLine bs (headerNumbers bs) (restOf bs)
+  unfolding headerNumbers restOf
+  says-line t = (
+    subst (λ k. List·Memᴰ k headerWidths) (sym (numbers-length (headerWidthOf bs) bs)) (header-listed bs t),
+    read-begins (headerWidthOf bs) bs (header-line bs t),
+  )
 
-  -- and says what is read of it
-  says-header : headed (headerOf bs .depth ∷ headerOf bs .count ∷ headerOf bs .cube ∷ []) ≡ headerOf bs
-  unfolding headerOf
-  says-header = ap headed (header-is bs)
-
-  -- what a text that begins with n, m and c is read as
-  module _ (n m c : ℤ) (rest : Bytes) (b : Begins bs (n ∷ m ∷ c ∷ []) rest) where
+  -- what a text is read as whose line 1 says these numbers
+  module _ (zs : List ℤ) (rest : Bytes) (f : FirstLine bs zs rest) where
     -- line 1 is in form
-    is-line : isLine headerWidth bs ≡ true
-    is-line = begins-read bs (n ∷ m ∷ c ∷ []) rest b .in-form
+    is-headed : isHeaded bs ≡ true
+    is-headed = listed-header bs (length zs) (f .0) (begins-read bs zs rest (f .1) .in-form)
 
-    -- it says them
-    header-of : headerOf bs ≡ headed (n ∷ m ∷ c ∷ [])
-    unfolding headerOf
-    header-of = ap headed (begins-read bs (n ∷ m ∷ c ∷ []) rest b .numbers)
+    -- it is read with as many fields
+    width-is : headerWidthOf bs ≡ length zs
+    width-is = header-width bs is-headed ∙ sym (one-listed (f .0))
 
-    -- the other lines have as many fields as they ask for
-    widths-as : widthsOf bs ≡ widths (toℕ n) (toℕ m)
-    unfolding widthsOf headed
-    widths-as = ap (λ (x : LoopNest). widths (depthOf x) (countOf x)) header-of
+    -- so it says them
+    header-of : headerOf bs ≡ headed zs
+    unfolding headerOf headerNumbers
+    header-of = ap headed (ap (λ k. numbersOf k bs) width-is ∙ begins-read bs zs rest (f .1) .numbers)
 
-    -- and stand behind line 1; where they are no such lines, the test says so
-    not-lines : ((ls : List (List ℤ)) → map length ls ≡ widths (toℕ n) (toℕ m) → Consists rest ls → ⊥) → areLines (widthsOf bs) (behind headerWidth bs) ≡ false
-    not-lines none = split (areLines (widthsOf bs) (behind headerWidth bs))
-        (λ t.
-        let behind-is = begins-read bs (n ∷ m ∷ c ∷ []) rest b .rest-is in
-        let w = lines-iff (widths (toℕ n) (toℕ m)) rest .0 (sym (ap₂ areLines widths-as behind-is) ∙ t) in
-        absurd (none (w .0) (w .1) (w .2)))
-        (λ f. f)
+    -- and the rest stands behind it
+    rest-of : restOf bs ≡ rest
+    unfolding restOf
+    rest-of = ap (λ k. behind k bs) width-is ∙ begins-read bs zs rest (f .1) .rest-is
+
+    -- where the rest has none of the shapes that they allow, the test says so
+    not-shaped : (Shaped rest (shapesOf (headed zs)) → ⊥) → isShaped bs ≡ false
+    unfolding isShaped
+    not-shaped none = split (isShaped bs)
+        (λ t. absurd (none (shapes-iff (shapesOf (headed zs)) rest .0 (sym (ap₂ fits (ap shapesOf header-of) rest-of) ∙ t))))
+        (λ n. n)
 
   -- 1 of line 1
-  line-answered : Answered ((1, LineMalformed bs) ∷ []) (malformedUnless (isLine headerWidth bs))
+  line-answered : Answered ((1, LineMalformed bs) ∷ []) (malformedUnless (isHeaded bs))
   line-answered =
-      split (isLine headerWidth bs)
-      (λ t. inr ((λ none. none (headerOf bs .depth) (headerOf bs .count) (headerOf bs .cube) (behind headerWidth bs) (begins t)), ap malformedUnless t))
-      (λ f. inl ((λ n m c rest b. clash (is-line n m c rest b) f), ap malformedUnless f))
+      split (isHeaded bs)
+      (λ t. inr ((λ none. none (headerNumbers bs) (restOf bs) (says-line t)), ap malformedUnless t))
+      (λ n. inl ((λ zs rest f. clash (is-headed zs rest f) n), ap malformedUnless n))
 
   -- what line 1 says meets a condition exactly if what is read of it does
-  line-words : isLine headerWidth bs ≡ true → (r : Refusal) → Condition (headerOf bs) r ↔ LineMeets bs r
+  line-words : isHeaded bs ≡ true → (r : Refusal) → Condition (headerOf bs) r ↔ LineMeets bs r
+  unfolding headerOf
   line-words t r = (
-    λ w. (headerOf bs .depth, headerOf bs .count, headerOf bs .cube, behind headerWidth bs, begins t, subst (λ x. Condition x r) (sym says-header) w),
-    λ w. subst (λ x. Condition x r) (sym (header-of (w .0) (w .1) (w .2) (w .3) (w .4))) (w .5),
+    λ w. (headerNumbers bs, restOf bs, says-line t, w),
+    λ w. subst (λ x. Condition x r) (sym (header-of (w .0) (w .1) (w .2))) (w .3),
   )
 
   -- ---- the rest
 
   -- 1 of the rest
-  rest-answered : isLine headerWidth bs ≡ true → Answered ((1, RestMalformed bs) ∷ []) (malformedUnless (areLines (widthsOf bs) (behind headerWidth bs)))
-  unfolding widthsOf
+  rest-answered : isHeaded bs ≡ true → Answered ((1, RestMalformed bs) ∷ []) (malformedUnless (isShaped bs))
+  unfolding isShaped headerOf
   rest-answered t =
-      split (areLines (widthsOf bs) (behind headerWidth bs))
-      (λ y. inr ((λ w. clash y (not-lines (w .0) (w .1) (w .2) (w .3) (w .4) (w .5))), ap malformedUnless y))
-      (λ f. inl (
+      split (isShaped bs)
+      (λ y. inr ((λ w. clash y (not-shaped (w .0) (w .1) (w .2) (w .3))), ap malformedUnless y))
+      (λ n. inl (
         (
-          headerOf bs .depth,
-          headerOf bs .count,
-          headerOf bs .cube,
-          behind headerWidth bs,
-          begins t,
-          λ ls w h. clash (lines-iff (widths (depthOf (headerOf bs)) (countOf (headerOf bs))) (behind headerWidth bs) .1 (ls, w, h)) f,
+          headerNumbers bs,
+          restOf bs,
+          says-line t,
+          λ w. clash (shapes-iff (shapesOf (headerOf bs)) (restOf bs) .1 w) n,
         ),
-        ap malformedUnless f,
+        ap malformedUnless n,
       ))
 
   -- a nest that the text says meets a condition exactly if what is read does
-  nest-words : isLine headerWidth bs ≡ true → firstMet (headerOf bs) headerOrder ≡ 0 → areLines (widthsOf bs) (behind headerWidth bs) ≡ true
+  nest-words : isHeaded bs ≡ true → firstMet (headerOf bs) headerOrder ≡ 0 → isShaped bs ≡ true
       → (r : Refusal) → Condition (bodyOf bs) r ↔ NestMeets bs r
   nest-words t e y r = (
     λ w. (bodyOf bs, body-whole bs (header-checked bs t ∙ e) y, w),
@@ -114,12 +116,12 @@ module _ (bs : Bytes) where
   pub read-answered : Answered (readOrder bs) (readRefusal bs)
   unfolding readRefusal
   read-answered =
-      answered-append ((1, LineMalformed bs) ∷ []) (lines ++ (rest ++ nests)) (malformedUnless (isLine headerWidth bs)) _ (omega arith, tt) line-answered
+      answered-append ((1, LineMalformed bs) ∷ []) (lines ++ (rest ++ nests)) (malformedUnless (isHeaded bs)) _ (omega arith, tt) line-answered
       (λ i.
-      let t = form-kept (isLine headerWidth bs) i in
+      let t = form-kept (isHeaded bs) i in
       answered-append lines (rest ++ nests) (firstMet (headerOf bs) headerOrder) _ (numbered-one (LineMeets bs) headerOrder) (numbered-answered (headerOf bs) (LineMeets bs) (line-words t) headerOrder)
-      (λ e. answered-append rest nests (malformedUnless (areLines (widthsOf bs) (behind headerWidth bs))) _ (omega arith, tt) (rest-answered t)
-      (λ a. numbered-answered (bodyOf bs) (NestMeets bs) (nest-words t e (form-kept (areLines (widthsOf bs) (behind headerWidth bs)) a)) bodyOrder)))
+      (λ e. answered-append rest nests (malformedUnless (isShaped bs)) _ (omega arith, tt) (rest-answered t)
+      (λ a. numbered-answered (bodyOf bs) (NestMeets bs) (nest-words t e (form-kept (isShaped bs) a)) bodyOrder)))
     where
       lines : Order
       lines = numbered (LineMeets bs) headerOrder

@@ -16,9 +16,10 @@ use Rattle.nest.specs.Nest.{Limit, padded, nestOf, emptyNest, maxDepth, maxDepe
 use Rattle.nest_text.specs.declared.reader.Line.{Line}
 use Rattle.nest_text.specs.declared.reader.Body.{Body}
 use Rattle.nest_text.specs.Fields.{Bytes, columns, newline}
-use Rattle.nest_text.specs.Text.{at, isMalformed, numberOf, fieldAt, isLine, numbersOf, behind, areLines, lineNumbers, widths, nestFrom}
+use Rattle.nest_text.specs.Text.{at, isMalformed, numberOf, fieldAt, isLine, numbersOf, behind, areLines, lineNumbers, widths, shapes, fits, nestFrom}
 use Rattle.nest_text.specs.Reader.{maxFields, lineOf, withLine, filled, bodyRead}
 use Rattle.nest_text.proofs.FieldLaws.{rest-part}
+use Rattle.nest_text.proofs.ShapeLaws.{shapes-one, shapes-first}
 use Rattle.nest_text.proofs.RowLaws.{width-vector, width-last, limits-line, time-line, dependence-line, last-line}
 use Rattle.nest_text.proofs.FillLaws.{same-nest, filled-limit, filled-time, filled-dependence, filled-last}
 
@@ -284,11 +285,11 @@ module _ (n m : ℕ) (c : ℤ) (bs : Bytes) (low : n ≤ maxDepth) (few : m ≤ 
     pub body-whole : p ≡ length bs → _≡_ {A = Body} (record { ok = true; nest = s }) (bodyRead n m c bs)
     unfolding bodyRead
     body-whole e =
-        let f : areLines (widths n m) bs ≡ true = form-end ∙ eq-eqb (length bs - p) 0 (omega arith) in
+        let f : fits (shapes n m) bs ≡ true = shapes-one n m bs ∙ (form-end ∙ eq-eqb (length bs - p) 0 (omega arith)) in
         let g : s ≡ nestFrom n m c all = r .held ∙ (ap (filled n m c) (take-all i all (rw long h)) ∙ filled-nest) in
-        rw (f, g, bodyRead) refl
+        rw (f, g, shapes-first n m bs f, bodyRead) refl
 
   -- a body that is not in form
   pub body-malformed : areLines (widths n m) bs ≡ false → _≡_ {A = Body} (record { ok = false; nest = emptyNest }) (bodyRead n m c bs)
   unfolding bodyRead
-  body-malformed e = rw (e, bodyRead) refl
+  body-malformed e = rw (shapes-one n m bs ∙ e, bodyRead) refl

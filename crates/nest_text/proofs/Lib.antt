@@ -11,6 +11,7 @@ pub mod NestLines
 pub mod Columns
 pub mod TextLength
 pub mod LineLaws
+pub mod ShapeLaws
 pub mod RowLaws
 pub mod FillLaws
 pub mod BodyLaws

@@ -3,7 +3,7 @@
 use mathlib.Core.Path.{_≡_, refl, sym, ap, ap₂, subst, _∙_}
 use mathlib.Core.Bool.{Bool, true, false, not, _&&_}
 use mathlib.Core.Logic.{_↔_}
-use mathlib.Core.List.{List, [], _∷_, _++_, map, flatMap, append-assoc}
+use mathlib.Core.List.{List, [], _∷_, _++_, map, flatMap, append-assoc, List·Memᴰ}
 use Prim.Native.Nat.{ℕ, zero, suc, _+_, _*_, _≤_, _<_}
 use native.Mathlib.Nat.{le-of-suc-le-suc, not-suc-le-zero}
 use native.Mathlib.Numerals.{add-one}
@@ -17,12 +17,13 @@ use Rattle.integers.specs.Lists.{any, tab, clash, split, and-true, length-tab, 
 use Rattle.nest_text.specs.declared.fields.Field.{Field}
 use Rattle.nest_text.specs.declared.fields.Field.the-variants.{Number, Malformed}
 use Rattle.nest_text.specs.Fields.{Bytes, newline, fieldOf, readOf}
-use Rattle.nest_text.specs.Text.{line, isMalformed, numberOf, fieldAt, isLine, numbersOf, behind, areLines, lineNumbers}
+use Rattle.nest_text.specs.Text.{line, isMalformed, numberOf, fieldAt, isLine, numbersOf, behind, areLines, lineNumbers, Shape, fits, firstFitting}
 use Rattle.nest_text.specs.Stored.{InColumns}
-use Rattle.nest_text.specs.Form.{Begins, Consists}
+use Rattle.nest_text.specs.Form.{Begins, Consists, Shaped}
 use Rattle.nest_text.proofs.FieldBack.{read-written}
 use Rattle.nest_text.proofs.Numerals.{field-iff, field-words}
 use Rattle.nest_text.proofs.WriteLaws.{field-length, line-cons}
+use Rattle.nest_text.proofs.ShapeLaws.{fitting-fits, fitting-listed, listed-shape}
 
 -- ---- numbers that six columns hold
 abbrev pub AllInColumns : List ℤ → Type 0
@@ -245,4 +246,11 @@ pub lines-iff : (ks : List ℕ) (bs : Bytes) → (areLines ks bs ≡ true) ↔ (
 lines-iff ks bs = (
   λ h. let r = lines-again ks bs h in (lineNumbers ks bs, lines-widths ks bs, written-consists bs (lineNumbers ks bs) (r .0) (r .1)),
   λ w. ap (λ x. areLines x bs) (sym (w .1)) ∙ consists-read bs (w .0) (w .2) .0,
+)
+
+-- the bytes are lines of a listed shape exactly if the test says so
+pub shapes-iff : (ws : List Shape) (bs : Bytes) → (fits ws bs ≡ true) ↔ Shaped bs ws
+shapes-iff ws bs = (
+  λ h. let w = lines-iff (firstFitting ws bs) bs .0 (fitting-fits ws bs h) in (w .0, subst (λ k. List·Memᴰ k ws) (sym (w .1)) (fitting-listed ws bs h), w .2),
+  λ w. listed-shape ws bs (map length (w .0)) (w .1) (lines-iff (map length (w .0)) bs .1 (w .0, refl, w .2)),
 )

@@ -18,10 +18,12 @@ use Rattle.nest_text.specs.declared.Reading.{Reading}
 use Rattle.nest_text.specs.declared.reader.Line.{Line}
 use Rattle.nest_text.specs.declared.reader.Body.{Body}
 use Rattle.nest_text.specs.Fields.{Bytes, columns}
-use Rattle.nest_text.specs.Text.{at, isLine, numbersOf, behind, areLines, lineNumbers, headerWidth, widths, headed, headerOf, widthsOf, bodyOf, malformedUnless, readRefusal, readNest}
+use Rattle.nest_text.specs.Text.{at, numbersOf, behind, lineNumbers, headerWidth, widths, isHeaded, headerNumbers, headed, headerOf}
+use Rattle.nest_text.specs.Text.{restOf, isShaped, bodyNumbers, nestFrom, bodyOf, malformedUnless, readRefusal, readNest}
 use Rattle.nest_text.specs.Reader.{maxFields, lineOf, headerRefusal, headerRead, filled, bodyRead}
 use Rattle.nest_text.proofs.FieldLaws.{rest-part}
 use Rattle.nest.proofs.Padding.{at-padded}
+use Rattle.nest_text.proofs.ShapeLaws.{shapes-first, header-one, header-numbers, rest-behind}
 use Rattle.nest_text.proofs.BodyLaws.{answered, unanswered, line-inside, filled-nest}
 
 -- the answer of the whole
@@ -61,9 +63,9 @@ unfolding headed emptyNest
 headed-shaped zs = refl
 
 -- so is what line 1 says
-header-shaped : (bs : Bytes) → headerOf bs ≡ shaped emptyNest (at (numbersOf headerWidth bs) 0) (at (numbersOf headerWidth bs) 1) (at (numbersOf headerWidth bs) 2)
+header-shaped : (bs : Bytes) → headerOf bs ≡ shaped emptyNest (at (headerNumbers bs) 0) (at (headerNumbers bs) 1) (at (headerNumbers bs) 2)
 unfolding headerOf
-header-shaped bs = headed-shaped (numbersOf headerWidth bs)
+header-shaped bs = headed-shaped (headerNumbers bs)
 
 -- and it is told by its shape
 header-self : (bs : Bytes) → headerOf bs ≡ shaped emptyNest (headerOf bs .depth) (headerOf bs .count) (headerOf bs .cube)
@@ -111,20 +113,20 @@ pub record Passed (bs : Bytes) (h : LoopNest) : Type 0 where
 module _ (bs : Bytes) where
   -- the form of the other lines; 5 to 13
   abbrev bodyRefusal : ℕ
-  bodyRefusal = orElse (malformedUnless (areLines (widthsOf bs) (behind headerWidth bs))) (firstMet (bodyOf bs) bodyOrder)
+  bodyRefusal = orElse (malformedUnless (isShaped bs)) (firstMet (bodyOf bs) bodyOrder)
 
   -- the refusals of line 1, then those of the rest
   in-two : readRefusal bs ≡ orElse (headerRefusal bs) bodyRefusal
   unfolding readRefusal headerRefusal
-  in-two = orElse-assoc (malformedUnless (isLine headerWidth bs)) (firstMet (headerOf bs) headerOrder) bodyRefusal
+  in-two = orElse-assoc (malformedUnless (isHeaded bs)) (firstMet (headerOf bs) headerOrder) bodyRefusal
 
   -- ---- line 1
-  header-malformed : isLine headerWidth bs ≡ false → headerRefusal bs ≡ 1
+  header-malformed : isHeaded bs ≡ false → headerRefusal bs ≡ 1
   unfolding headerRefusal orElse
   header-malformed e = rw e refl
 
   -- line 1 in form
-  pub header-checked : isLine headerWidth bs ≡ true → headerRefusal bs ≡ firstMet (headerOf bs) headerOrder
+  pub header-checked : isHeaded bs ≡ true → headerRefusal bs ≡ firstMet (headerOf bs) headerOrder
   unfolding headerRefusal orElse
   header-checked e = rw e refl
 
@@ -167,17 +169,20 @@ module _ (bs : Bytes) where
   module _ (l : Line) (read : l ≡ lineOf headerWidth bs) where
     -- a malformed line 1
     pub line-refused : l .ok ≡ false → refusedAs 1 ≡ headerRead bs
-    line-refused o = header-refused 1 (header-malformed (unanswered headerWidth bs l read o)) (λ e. absurd (omega arith))
+    line-refused o = header-refused 1 (header-malformed (header-one bs ∙ unanswered headerWidth bs l read o)) (λ e. absurd (omega arith))
 
     -- the nest that is made of line 1's numbers
     pub header-read : l .ok ≡ true → (s h : LoopNest) → s ≡ emptyNest → h ≡ shaped s (at (l .numbers) 0) (at (l .numbers) 1) (at (l .numbers) 2) → Headed bs h
-    header-read o s h none made = headed-by h is (ap (λ (x : LoopNest). firstMet x headerOrder) is ∙ sym (header-checked (answered headerWidth bs l read o .0)))
+    header-read o s h none made = headed-by h is (ap (λ (x : LoopNest). firstMet x headerOrder) is ∙ sym (header-checked form))
       where
+        form : isHeaded bs ≡ true
+        form = header-one bs ∙ answered headerWidth bs l read o .0
+
         zs : List ℤ
         zs = numbersOf headerWidth bs
 
-        row : (k : ℕ) → at (l .numbers) k ≡ at zs k
-        row k = ap (λ (x : List ℤ). at x k) (answered headerWidth bs l read o .1) ∙ at-padded maxFields zs k
+        row : (k : ℕ) → at (l .numbers) k ≡ at (headerNumbers bs) k
+        row k = ap (λ (x : List ℤ). at x k) (answered headerWidth bs l read o .1) ∙ (at-padded maxFields zs k ∙ ap (λ (x : List ℤ). at x k) (sym (header-numbers bs form)))
 
         is : h ≡ headerOf bs
         is = made ∙ (ap (λ (x : LoopNest). shaped x (at (l .numbers) 0) (at (l .numbers) 1) (at (l .numbers) 2)) none ∙ (rw (row 0, row 1, row 2) (sym (header-shaped bs))))
@@ -185,9 +190,9 @@ module _ (bs : Bytes) where
   -- ---- the lines behind line 1, where it passed
   module _ (none : headerRefusal bs ≡ 0) where
     -- its form is kept
-    pub header-form : isLine headerWidth bs ≡ true
+    pub header-form : isHeaded bs ≡ true
     unfolding headerRefusal
-    header-form = form-kept (isLine headerWidth bs) (orElse-zero (malformedUnless (isLine headerWidth bs)) (firstMet (headerOf bs) headerOrder) none .0)
+    header-form = form-kept (isHeaded bs) (orElse-zero (malformedUnless (isHeaded bs)) (firstMet (headerOf bs) headerOrder) none .0)
 
     -- its numbers pass
     pub header-fits : firstMet (headerOf bs) headerOrder ≡ 0
@@ -209,59 +214,70 @@ module _ (bs : Bytes) where
     abbrev c : ℤ
     c = headerOf bs .cube
 
-    -- the nest that is read, by its filling
-    body-filled : bodyOf bs ≡ filled n m c (lineNumbers (widths n m) (behind headerWidth bs))
-    unfolding bodyOf widthsOf
-    body-filled = sym (filled-nest n m c (behind headerWidth bs) (fitting .depth-few) (fitting .count-few))
+    -- ---- lines of a shape that fits
+    module _ (form : isShaped bs ≡ true) where
+      -- they are read by it
+      numbers-are : bodyNumbers bs ≡ lineNumbers (widths n m) (restOf bs)
+      unfolding bodyNumbers isShaped
+      numbers-are = ap (λ w. lineNumbers w (restOf bs)) (shapes-first n m (restOf bs) form)
 
-    -- it has line 1's shape, so the refusals of line 1 are not met
-    shape-kept : firstMet (bodyOf bs) headerOrder ≡ 0
-    shape-kept =
-        let f = filled-shape n m c (lineNumbers (widths n m) (behind headerWidth bs)) in
-        same-shape (bodyOf bs) (headerOf bs) (ap (λ (s : LoopNest). s .depth) body-filled ∙ (f .0 ∙ sym (fitting .depth-is)))
-        (ap (λ (s : LoopNest). s .count) body-filled ∙ (f .1 ∙ sym (fitting .count-is)))
-        (ap (λ (s : LoopNest). s .cube) body-filled ∙ f .2)
-        ∙ header-fits
+      -- the nest that is read, by its filling
+      body-filled : bodyOf bs ≡ filled n m c (lineNumbers (widths n m) (restOf bs))
+      unfolding bodyOf
+      body-filled = ap (nestFrom n m c) numbers-are ∙ sym (filled-nest n m c (restOf bs) (fitting .depth-few) (fitting .count-few))
 
-    -- the check of the whole nest gives 5 to 13
-    body-checked : refusal (bodyOf bs) ≡ firstMet (bodyOf bs) bodyOrder
-    body-checked = behind-header (bodyOf bs) shape-kept
+      -- it has line 1's shape, so the refusals of line 1 are not met
+      shape-kept : firstMet (bodyOf bs) headerOrder ≡ 0
+      shape-kept =
+          let f = filled-shape n m c (lineNumbers (widths n m) (restOf bs)) in
+          same-shape (bodyOf bs) (headerOf bs) (ap (λ (s : LoopNest). s .depth) body-filled ∙ (f .0 ∙ sym (fitting .depth-is)))
+          (ap (λ (s : LoopNest). s .count) body-filled ∙ (f .1 ∙ sym (fitting .count-is)))
+          (ap (λ (s : LoopNest). s .cube) body-filled ∙ f .2)
+          ∙ header-fits
+
+      -- the check of the whole nest gives 5 to 13
+      body-checked : refusal (bodyOf bs) ≡ firstMet (bodyOf bs) bodyOrder
+      body-checked = behind-header (bodyOf bs) shape-kept
 
     -- only the rest can be refused
     rest-refusal : readRefusal bs ≡ bodyRefusal
     rest-refusal = in-two ∙ orElse-second (headerRefusal bs) bodyRefusal none
 
     -- the rest of an accepted text is in form
-    pub rest-form : readRefusal bs ≡ 0 → areLines (widthsOf bs) (behind headerWidth bs) ≡ true
+    pub rest-form : readRefusal bs ≡ 0 → isShaped bs ≡ true
     rest-form e =
-        form-kept (areLines (widthsOf bs) (behind headerWidth bs)) (orElse-zero (malformedUnless (areLines (widthsOf bs) (behind headerWidth bs))) (firstMet (bodyOf bs) bodyOrder) (sym rest-refusal ∙ e) .0)
+        form-kept (isShaped bs) (orElse-zero (malformedUnless (isShaped bs)) (firstMet (bodyOf bs) bodyOrder) (sym rest-refusal ∙ e) .0)
 
     -- a malformed rest
-    rest-malformed : areLines (widthsOf bs) (behind headerWidth bs) ≡ false → readRefusal bs ≡ 1
+    rest-malformed : isShaped bs ≡ false → readRefusal bs ≡ 1
     unfolding orElse
     rest-malformed e = rest-refusal ∙ (rw e refl)
 
     -- a rest in form
-    pub rest-checked : areLines (widthsOf bs) (behind headerWidth bs) ≡ true → readRefusal bs ≡ refusal (bodyOf bs)
+    pub rest-checked : isShaped bs ≡ true → readRefusal bs ≡ refusal (bodyOf bs)
     unfolding orElse
-    rest-checked e = rest-refusal ∙ (rw e (sym body-checked))
+    rest-checked e = rest-refusal ∙ (rw e (sym (body-checked e)))
 
     -- the flag by the test
-    body-choice : (b : Bool) → areLines (widthsOf bs) (behind headerWidth bs) ≡ b → bodyRead n m c (behind headerWidth bs) .ok ≡ b
-    unfolding bodyRead widthsOf
+    body-choice : (b : Bool) → isShaped bs ≡ b → bodyRead n m c (restOf bs) .ok ≡ b
+    unfolding bodyRead isShaped
     body-choice true e = rw (e, bodyRead) refl
     body-choice false e = rw (e, bodyRead) refl
 
     -- the nest of a rest in form
-    body-nest : areLines (widthsOf bs) (behind headerWidth bs) ≡ true → bodyRead n m c (behind headerWidth bs) .nest ≡ bodyOf bs
-    unfolding bodyRead widthsOf bodyOf
+    body-nest : isShaped bs ≡ true → bodyRead n m c (restOf bs) .nest ≡ bodyOf bs
+    unfolding bodyRead isShaped bodyOf bodyNumbers
     body-nest e = rw (e, bodyRead) refl
 
     -- by what the body's reader answered
     module _ (b : Body) (read : b ≡ bodyRead n m c (behind headerWidth bs)) where
+      -- it was given the rest of the text
+      read-rest : b ≡ bodyRead n m c (restOf bs)
+      read-rest = read ∙ ap (bodyRead n m c) (sym (rest-behind bs header-form))
+
       -- the flag is the test
-      form-is : b .ok ≡ areLines (widthsOf bs) (behind headerWidth bs)
-      form-is = ap (λ (x : Body). x .ok) read ∙ body-choice (areLines (widthsOf bs) (behind headerWidth bs)) refl
+      form-is : b .ok ≡ isShaped bs
+      form-is = ap (λ (x : Body). x .ok) read-rest ∙ body-choice (isShaped bs) refl
 
       -- 1 for a malformed rest
       rest-unformed : b .ok ≡ false → refusedAs 1 ≡ readingOf bs
@@ -269,7 +285,7 @@ module _ (bs : Bytes) where
 
       -- the nest that is read
       nest-is : b .ok ≡ true → b .nest ≡ bodyOf bs
-      nest-is o = ap (λ (x : Body). x .nest) read ∙ body-nest (sym form-is ∙ o)
+      nest-is o = ap (λ (x : Body). x .nest) read-rest ∙ body-nest (sym form-is ∙ o)
 
       -- its first refusal is that of the text
       number-is : b .ok ≡ true → refusal (b .nest) ≡ readRefusal bs
@@ -286,7 +302,7 @@ module _ (bs : Bytes) where
     -- all of it together
     passed-header : Passed bs (headerOf bs)
     passed-header = record {
-      room = omega (arith, line-inside headerWidth bs header-form);
+      room = omega (arith, line-inside headerWidth bs (sym (header-one bs) ∙ header-form));
       fits = fitting;
       start = sym (filled-none n m c ∙ (rw (← fitting .depth-is, ← fitting .count-is) (sym (header-self bs))));
       malformed = rest-unformed;

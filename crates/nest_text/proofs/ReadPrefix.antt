@@ -2,22 +2,25 @@
 -- Assumes nothing.
 use mathlib.Core.Path.{_≡_, refl, sym, ap, ap₂, subst, _∙_}
 use mathlib.Core.Bool.{Bool, true, false, not, _&&_}
-use mathlib.Core.List.{List, [], _∷_, _++_}
+use mathlib.Core.List.{List, [], _∷_, _++_, List·Memᴰ}
 use Prim.Native.Nat.{ℕ, zero, suc, _+_, _*_, _-_, _≤_}
 use native.Mathlib.Nat.{suc-ne-zero, not-suc-le-zero, mul-le-mul, mul-suc}
 use native.Mathlib.Omega.{arith}
 use borrow.Author.Tests.{ne-eqb}
 use lib.Dec.{eqb}
 use lib.IntN.{ℤ}
-use lib.ListN.{length, take, drop, replicate}
+use lib.ListN.{length, getD, take, drop, replicate}
 use lib.Seq.{take-take, getD-take, take-nil}
-use Rattle.integers.specs.Lists.{any, tab-same}
+use Rattle.integers.specs.Lists.{any, tab-same, split}
 use Rattle.nest.specs.declared.LoopNest.{LoopNest}
 use Rattle.nest.specs.Nest.{depthOf, countOf, emptyNest, maxDepth, maxDependences}
 use Rattle.nest.specs.Refusals.{firstMet, headerOrder, bodyOrder, refusal, orElse}
 use Rattle.nest_text.specs.Fields.{Bytes, newline, readOf}
-use Rattle.nest_text.specs.Text.{textOf, isMalformed, numberOf, fieldAt, isLine, numbersOf, behind, areLines, lineNumbers, headerWidth, widths, headed, nestFrom, headerOf, widthsOf, bodyOf, malformedUnless, readRefusal, readNest, readMost}
+use Rattle.nest_text.specs.Text.{lineLength, headerWidth, textOf, isMalformed, numberOf, fieldAt, isLine, numbersOf, behind, areLines, lineNumbers}
+use Rattle.nest_text.specs.Text.{headerWidths, Shape, widths, shapes, shapesOf, fits, firstFitting, isHeaded, headerWidthOf, headerNumbers, headed, headerOf}
+use Rattle.nest_text.specs.Text.{restOf, isShaped, bodyNumbers, nestFrom, bodyOf, malformedUnless, readRefusal, readNest, readMost}
 use Rattle.nest.proofs.Spans.{spans, HeaderSpans, header-spans}
+use Rattle.nest_text.proofs.ShapeLaws.{any-same, first-same, one-listed, fitting-listed, none-fitting, header-narrow}
 use Rattle.nest_text.proofs.TextLength.{text-most}
 use Rattle.nest.proofs.Entries.{orElse-zero}
 
@@ -100,35 +103,95 @@ widths-most n m h k =
     let q : (6 * n + 1) * m ≤ 19 * 8 = mul-le-mul p k in
     omega (arith, total-append (replicate n 2) (n ∷ (replicate m n ++ ((1 + m) ∷ []))), total-append (replicate m n) ((1 + m) ∷ []), total-same n 2, total-same m n, q)
 
+-- ---- shapes
+
+module _ (ws : List Shape) (N : ℕ) (bs : Bytes) (short : (w : Shape) → List·Memᴰ w ws → total w + 1 ≤ N) where
+  -- the same shapes fit
+  same-fit : (w : Shape) → List·Memᴰ w ws → areLines w (take N bs) ≡ areLines w bs
+  same-fit w m = lines-take w N bs (short w m)
+
+  -- so whether one does is the same
+  fits-take : fits ws (take N bs) ≡ fits ws bs
+  unfolding fits
+  fits-take = any-same (λ w. areLines w (take N bs)) (λ w. areLines w bs) ws same-fit
+
+  -- and which is the first
+  fitting-take : firstFitting ws (take N bs) ≡ firstFitting ws bs
+  unfolding firstFitting
+  fitting-take = ap (λ l. getD l 0 []) (first-same (λ w. areLines w (take N bs)) (λ w. areLines w bs) ws same-fit)
+
+  -- which is short
+  fitting-short : total (firstFitting ws bs) ≤ N
+  fitting-short = split (fits ws bs) (λ t. omega (arith, short (firstFitting ws bs) (fitting-listed ws bs t))) (λ f. rw (none-fitting ws bs f) (omega arith))
+
 -- ---- the whole text
 
--- line 1
-header-take : (N : ℕ) (bs : Bytes) → 19 ≤ N → headerOf (take N bs) ≡ headerOf bs
-unfolding headerOf
-header-take N bs h = ap headed (numbers-take N headerWidth bs (omega arith))
+-- the numbers of fields of line 1 that are tried
+module _ (N : ℕ) (bs : Bytes) (h : lineLength headerWidth ≤ N) where
+  -- are there in the first N bytes
+  same-line : (k : ℕ) → List·Memᴰ k headerWidths → isLine k (take N bs) ≡ isLine k bs
+  same-line k m = let e = one-listed m in line-take N k bs (omega (arith, e))
+
+  -- so line 1's form is the same
+  headed-take : isHeaded (take N bs) ≡ isHeaded bs
+  unfolding isHeaded
+  headed-take = any-same (λ k. isLine k (take N bs)) (λ k. isLine k bs) headerWidths same-line
+
+  -- its number of fields
+  width-take : headerWidthOf (take N bs) ≡ headerWidthOf bs
+  unfolding headerWidthOf
+  width-take = ap (λ l. getD l 0 0) (first-same (λ k. isLine k (take N bs)) (λ k. isLine k bs) headerWidths same-line)
+
+  -- what it says
+  header-take : headerOf (take N bs) ≡ headerOf bs
+  unfolding headerOf headerNumbers
+  header-take = ap headed (ap (λ k. numbersOf k (take N bs)) width-take ∙ numbers-take N (headerWidthOf bs) bs (omega (arith, header-narrow bs)))
+
+  -- and what stands behind it
+  rest-take : restOf (take N bs) ≡ take (N - lineLength (headerWidthOf bs)) (restOf bs)
+  unfolding restOf
+  rest-take = ap (λ k. behind k (take N bs)) width-take ∙ drop-take (lineLength (headerWidthOf bs)) N bs
 
 -- what is read behind a line 1 that is not refused
 module _ (bs : Bytes) (h : HeaderSpans (headerOf bs)) where
-  -- how long the other lines are
-  most : total (widthsOf bs) ≤ 265
-  unfolding widthsOf
-  most = widths-most (depthOf (headerOf bs)) (countOf (headerOf bs)) (h .depth-few) (h .count-few)
+  -- the shapes that line 1 allows
+  abbrev ws : List Shape
+  ws = shapesOf (headerOf bs)
 
-  -- how many fields they have
-  widths-take : widthsOf (take readMost bs) ≡ widthsOf bs
-  unfolding widthsOf
-  widths-take = ap (λ (x : LoopNest). widths (depthOf x) (countOf x)) (header-take readMost bs (omega arith))
+  -- how many bytes of the rest are looked at
+  abbrev far : ℕ
+  far = readMost - lineLength (headerWidthOf bs)
+
+  -- lines of such a shape are shorter
+  most : (w : Shape) → List·Memᴰ w ws → total w + 1 ≤ far
+  unfolding shapes
+  most w m =
+      let e = ap total (one-listed m) in
+      omega (arith, e, widths-most (depthOf (headerOf bs)) (countOf (headerOf bs)) (h .depth-few) (h .count-few), header-narrow bs)
+
+  -- line 1 allows the same
+  shapes-take : shapesOf (headerOf (take readMost bs)) ≡ ws
+  shapes-take = ap shapesOf (header-take readMost bs (omega arith))
 
   -- their form
-  form-take : areLines (widthsOf (take readMost bs)) (behind headerWidth (take readMost bs)) ≡ areLines (widthsOf bs) (behind headerWidth bs)
-  form-take = ap₂ areLines widths-take (drop-take 19 readMost bs) ∙ lines-take (widthsOf bs) 266 (drop 19 bs) (omega (arith, most))
+  form-take : isShaped (take readMost bs) ≡ isShaped bs
+  unfolding isShaped
+  form-take = ap₂ fits shapes-take (rest-take readMost bs (omega arith)) ∙ fits-take ws far (restOf bs) most
+
+  -- their numbers
+  lines-same : bodyNumbers (take readMost bs) ≡ bodyNumbers bs
+  unfolding bodyNumbers
+  lines-same =
+      ap₂ (λ (w : Shape) (x : Bytes). lineNumbers w x)
+      (ap₂ firstFitting shapes-take (rest-take readMost bs (omega arith)) ∙ fitting-take ws far (restOf bs) most)
+      (rest-take readMost bs (omega arith))
+      ∙ lines-numbers-take (firstFitting ws (restOf bs)) far (restOf bs) (fitting-short ws far (restOf bs) most)
 
   -- what they say
   body-take : bodyOf (take readMost bs) ≡ bodyOf bs
   unfolding bodyOf
   body-take =
-      ap₂ (λ (x : LoopNest) (ls : List (List ℤ)). nestFrom (depthOf x) (countOf x) (x .cube) ls) (header-take readMost bs (omega arith))
-      (ap₂ lineNumbers widths-take (drop-take 19 readMost bs) ∙ lines-numbers-take (widthsOf bs) 266 (drop 19 bs) (omega (arith, most)))
+      ap₂ (λ (x : LoopNest) (ls : List (List ℤ)). nestFrom (depthOf x) (countOf x) (x .cube) ls) (header-take readMost bs (omega arith)) lines-same
 
 -- the answer by the answers of its parts
 abbrev answer : ℕ → ℕ → ℕ → ℕ → ℕ
@@ -158,13 +221,13 @@ read-prefix bs = subst (λ k. Same k (header bs)) (sym header-same) (by (header 
     front = take readMost bs
 
     first : Bytes → ℕ
-    first b = malformedUnless (isLine headerWidth b)
+    first b = malformedUnless (isHeaded b)
 
     header : Bytes → ℕ
     header b = firstMet (headerOf b) headerOrder
 
     others : Bytes → ℕ
-    others b = malformedUnless (areLines (widthsOf b) (behind headerWidth b))
+    others b = malformedUnless (isShaped b)
 
     body : Bytes → ℕ
     body b = firstMet (bodyOf b) bodyOrder
@@ -173,8 +236,8 @@ read-prefix bs = subst (λ k. Same k (header bs)) (sym header-same) (by (header 
     Same h k = (answer (first front) h (others front) (body front) ≡ answer (first bs) k (others bs) (body bs))
         × (nestIf (answer (first front) h (others front) (body front)) (bodyOf front) ≡ nestIf (answer (first bs) k (others bs) (body bs)) (bodyOf bs))
 
-    first-same : first front ≡ first bs
-    first-same = ap malformedUnless (line-take readMost headerWidth bs (omega arith))
+    start-same : first front ≡ first bs
+    start-same = ap malformedUnless (headed-take readMost bs (omega arith))
 
     header-same : header front ≡ header bs
     header-same = ap (λ x. firstMet x headerOrder) (header-take readMost bs (omega arith))
@@ -182,8 +245,8 @@ read-prefix bs = subst (λ k. Same k (header bs)) (sym header-same) (by (header 
     by : (a : ℕ) → header bs ≡ a → Same a a
     by zero q =
         let h = header-spans (headerOf bs) q in
-        let e : answer (first front) 0 (others front) (body front) ≡ answer (first bs) 0 (others bs) (body bs) = ap₂ (λ x y. orElse x (orElse 0 y)) first-same (ap₂ orElse (ap malformedUnless (form-take bs h)) (ap (λ x. firstMet x bodyOrder) (body-take bs h))) in
+        let e : answer (first front) 0 (others front) (body front) ≡ answer (first bs) 0 (others bs) (body bs) = ap₂ (λ x y. orElse x (orElse 0 y)) start-same (ap₂ orElse (ap malformedUnless (form-take bs h)) (ap (λ x. firstMet x bodyOrder) (body-take bs h))) in
         (e, ap₂ nestIf e (body-take bs h))
     by (suc a) q =
-        let e : answer (first front) (suc a) (others front) (body front) ≡ answer (first bs) (suc a) (others bs) (body bs) = ap (λ x. answer x (suc a) (others front) (body front)) first-same ∙ stopped (first bs) a (others front) (body front) (others bs) (body bs) in
+        let e : answer (first front) (suc a) (others front) (body front) ≡ answer (first bs) (suc a) (others bs) (body bs) = ap (λ x. answer x (suc a) (others front) (body front)) start-same ∙ stopped (first bs) a (others front) (body front) (others bs) (body bs) in
         (e, ap (λ r. nestIf r (bodyOf front)) e ∙ stopped-nest (first bs) a (others bs) (body bs) (bodyOf front) (bodyOf bs))

@@ -15,7 +15,8 @@ use Rattle.nest.specs.Refusals.{firstMet, headerOrder, refusal}
 use Rattle.nest.proofs.FirstMet.{accepted-header}
 use Rattle.nest_text.specs.declared.Reading.{Reading}
 use Rattle.nest_text.specs.Fields.{Bytes, fieldOf}
-use Rattle.nest_text.specs.Text.{line, linesOf, textOf, isLine, numbersOf, behind, areLines, lineNumbers, headerWidth, widths, headed, nestFrom, headerOf, widthsOf, bodyOf, readRefusal, readNest}
+use Rattle.nest_text.specs.Text.{line, linesOf, textOf, areLines, lineNumbers, headerWidth, Shape, widths, shapes, shapesOf, fits, firstFitting}
+use Rattle.nest_text.specs.Text.{isHeaded, headerWidthOf, headerNumbers, headed, headerOf, restOf, isShaped, bodyNumbers, nestFrom, bodyOf, readRefusal, readNest}
 use Rattle.nest_text.specs.Reader.{headerRefusal}
 use Rattle.nest_text.specs.Stored.{InColumns}
 use Rattle.nest_text.specs.Form.{Consists, Whole, WrittenRead}
@@ -24,6 +25,7 @@ use Rattle.nest.proofs.Spans.{Spans, spans, HeaderSpans, header-spans}
 use Rattle.nest.proofs.Refused.{accepted}
 use Rattle.nest_text.proofs.TextLength.{shapeLine, shape-columns, limits-columns, time-columns, dependence-columns, boundary-columns, weight-columns}
 use Rattle.nest_text.proofs.LineBack.{AllInColumns, LinesInColumns, LineRead, all-tab, line-read, lines-read, line-again, lines-again, lines-widths, numbers-length, consists-written, written-consists}
+use Rattle.nest_text.proofs.ShapeLaws.{fitting-fits, shapes-one, shapes-first, header-line, header-one, header-numbers, rest-behind}
 use Rattle.nest_text.proofs.ReadLaws.{same-shape, header-checked, header-zero, whole-passed, header-form, header-fits, rest-form, rest-checked}
 use Rattle.nest.proofs.Places.{cleared-refusal}
 use Rattle.nest_text.proofs.NestLines.{Lines, pair, bodyLines, nest-again, body-widths, triple-back, Parts, parts, made, made-is, made-lines, made-clear}
@@ -91,27 +93,48 @@ read-is bs e = sym (ap (λ (x : Reading). x .nest) (whole-passed bs e))
 
 -- line 1 and the other lines, read from the text
 record TextRead (s : LoopNest) (bs : Bytes) : Type 0 where
-  first : isLine headerWidth bs ≡ true
+  first : isHeaded bs ≡ true
   header : headerOf bs ≡ headed (shapeLine s)
-  others : areLines (widthsOf bs) (behind headerWidth bs) ≡ true
+  others : isShaped bs ≡ true
   body : bodyOf bs ≡ cleared s
 
-module _ (s : LoopNest) (bs rest : Bytes) (r : LineRead (shapeLine s) rest bs) where
-  -- line 1 says what it said
+module _ (s : LoopNest) (bs rest : Bytes) (r : LineRead (shapeLine s) rest bs) (b : (areLines (map length (bodyLines s)) rest ≡ true) × (lineNumbers (map length (bodyLines s)) rest ≡ bodyLines s)) where
+  -- line 1 is in form
+  first-read : isHeaded bs ≡ true
+  first-read = header-one bs ∙ r .in-form
+
+  -- it says what it said
   header-read : headerOf bs ≡ headed (shapeLine s)
   unfolding headerOf
-  header-read = ap headed (r .numbers)
+  header-read = ap headed (header-numbers bs first-read ∙ r .numbers)
 
-  -- so the numbers of fields are those of the lines
-  widths-read : widthsOf bs ≡ map length (bodyLines s)
-  unfolding widthsOf headed
-  widths-read = ap (λ (x : LoopNest). widths (depthOf x) (countOf x)) header-read ∙ sym (body-widths s)
+  -- the other lines stand behind it
+  rest-read : restOf bs ≡ rest
+  rest-read = rest-behind bs first-read ∙ r .rest-is
+
+  -- so their shapes are those of the nest
+  shapes-read : shapesOf (headerOf bs) ≡ shapesOf s
+  unfolding headed
+  shapes-read = ap shapesOf header-read
+
+  -- of which one fits
+  fits-read : fits (shapesOf s) rest ≡ true
+  fits-read = shapes-one (depthOf s) (countOf s) rest ∙ (ap (λ w. areLines w rest) (sym (body-widths s)) ∙ b .0)
+
+  -- they are in form
+  others-read : isShaped bs ≡ true
+  unfolding isShaped
+  others-read = ap₂ fits shapes-read rest-read ∙ fits-read
+
+  -- the shape by which they are read is that of the lines
+  shape-read : firstFitting (shapesOf (headerOf bs)) (restOf bs) ≡ map length (bodyLines s)
+  shape-read = ap₂ firstFitting shapes-read rest-read ∙ (shapes-first (depthOf s) (countOf s) rest fits-read ∙ sym (body-widths s))
 
   -- and the lines give the nest
-  body-read : lineNumbers (map length (bodyLines s)) rest ≡ bodyLines s → bodyOf bs ≡ cleared s
-  unfolding bodyOf headed
-  body-read e =
-      ap₂ (λ (x : LoopNest) (ls : Lines). nestFrom (depthOf x) (countOf x) (x .cube) ls) header-read (ap₂ lineNumbers widths-read (r .rest-is) ∙ e) ∙ nest-again s
+  body-read : bodyOf bs ≡ cleared s
+  unfolding bodyOf bodyNumbers headed
+  body-read =
+      ap₂ (λ (x : LoopNest) (ls : Lines). nestFrom (depthOf x) (countOf x) (x .cube) ls) header-read (ap₂ lineNumbers shape-read rest-read ∙ b .1) ∙ nest-again s
 
 -- the text of a nest with its numbers in columns
 text-read : (s : LoopNest) → LinesInColumns (linesOf s) → TextRead s (textOf s)
@@ -122,10 +145,10 @@ text-read s h =
     let r = line-read (shapeLine s) rest (h .0) in
     let b = lines-read (bodyLines s) (h .1) in
     record {
-      first = r .in-form;
-      header = header-read s bs rest r;
-      others = ap₂ areLines (widths-read s bs rest r) (r .rest-is) ∙ b .0;
-      body = body-read s bs rest r (b .1);
+      first = first-read s bs rest r b;
+      header = header-read s bs rest r b;
+      others = others-read s bs rest r b;
+      body = body-read s bs rest r b;
     }
 
 -- a line 1 with these numbers meets the conditions that the nest meets
@@ -151,9 +174,9 @@ read-written s e =
 -- ---- what was read is written
 
 -- line 1 has the numbers that it is read as
-pub header-is : (bs : Bytes) → headerOf bs .depth ∷ headerOf bs .count ∷ headerOf bs .cube ∷ [] ≡ numbersOf headerWidth bs
+pub header-is : (bs : Bytes) → isHeaded bs ≡ true → headerOf bs .depth ∷ headerOf bs .count ∷ headerOf bs .cube ∷ [] ≡ headerNumbers bs
 unfolding headerOf headed
-header-is bs = triple-back (numbersOf headerWidth bs) (numbers-length headerWidth bs)
+header-is bs h = triple-back (headerNumbers bs) (ap length (header-numbers bs h) ∙ numbers-length headerWidth bs)
 
 -- a text that says a nest is the nest's text
 pub whole-text : (bs : Bytes) (s : LoopNest) → Whole bs s → LinesInColumns (linesOf s) × (bs ≡ textOf s)
@@ -165,10 +188,10 @@ pub whole-body : (bs : Bytes) (s : LoopNest) → Whole bs s → bodyOf bs ≡ s
 whole-body bs s w = let t = whole-text bs s w in ap bodyOf (t .1) ∙ text-read s (t .0) .body ∙ w .other-places
 
 -- a text in form, with line 1 in span, says the nest that is read
-pub body-whole : (bs : Bytes) → headerRefusal bs ≡ 0 → areLines (widthsOf bs) (behind headerWidth bs) ≡ true → Whole bs (bodyOf bs)
-unfolding bodyOf widthsOf
+pub body-whole : (bs : Bytes) → headerRefusal bs ≡ 0 → isShaped bs ≡ true → Whole bs (bodyOf bs)
+unfolding bodyOf bodyNumbers isShaped headerNumbers restOf
 body-whole bs none others =
-    subst (Whole bs) (sym (made-is n m c ls p few)) (record { lines-are = subst (Consists bs) (sym lines) (written-consists bs (numbersOf headerWidth bs ∷ ls) (first .0, rest .0) text); other-places = made-clear n m c ls p few })
+    subst (Whole bs) (sym (made-is n m c ls p few)) (record { lines-are = subst (Consists bs) (sym lines) (written-consists bs (headerNumbers bs ∷ ls) (first .0, rest .0) text); other-places = made-clear n m c ls p few })
   where
     y : LoopNest
     y = headerOf bs
@@ -182,8 +205,16 @@ body-whole bs none others =
     c : ℤ
     c = y .cube
 
+    -- the shape by which the lines are read
+    shape : Shape
+    shape = firstFitting (shapes n m) (restOf bs)
+
+    -- it is the one that is listed
+    shape-is : shape ≡ widths n m
+    shape-is = shapes-first n m (restOf bs) others
+
     ls : Lines
-    ls = lineNumbers (widths n m) (behind headerWidth bs)
+    ls = lineNumbers shape (restOf bs)
 
     sh : HeaderSpans y
     sh = header-spans y (header-fits bs none)
@@ -192,19 +223,19 @@ body-whole bs none others =
     few = sh .depth-few
 
     p : Parts n m ls
-    p = parts n m ls (lines-widths (widths n m) (behind headerWidth bs))
+    p = parts n m ls (lines-widths shape (restOf bs) ∙ shape-is)
 
-    first : AllInColumns (numbersOf headerWidth bs) × (bs ≡ line (numbersOf headerWidth bs) ++ behind headerWidth bs)
-    first = line-again headerWidth bs (header-form bs none)
+    first : AllInColumns (headerNumbers bs) × (bs ≡ line (headerNumbers bs) ++ restOf bs)
+    first = line-again (headerWidthOf bs) bs (header-line bs (header-form bs none))
 
-    rest : LinesInColumns ls × (behind headerWidth bs ≡ flatMap line ls)
-    rest = lines-again (widths n m) (behind headerWidth bs) others
+    rest : LinesInColumns ls × (restOf bs ≡ flatMap line ls)
+    rest = lines-again shape (restOf bs) (fitting-fits (shapes n m) (restOf bs) others)
 
-    text : bs ≡ flatMap line (numbersOf headerWidth bs ∷ ls)
-    text = unfold flatMap in first .1 ∙ ap (λ l. line (numbersOf headerWidth bs) ++ l) (rest .1)
+    text : bs ≡ flatMap line (headerNumbers bs ∷ ls)
+    text = unfold flatMap in first .1 ∙ ap (λ l. line (headerNumbers bs) ++ l) (rest .1)
 
-    lines : linesOf (made n m c ls p few) ≡ numbersOf headerWidth bs ∷ ls
-    lines = made-lines n m c ls p few ∙ ap (λ (z : List ℤ). z ∷ ls) (ap₂ (λ (a b : ℤ). a ∷ b ∷ c ∷ []) (sym (sh .depth-is)) (sym (sh .count-is)) ∙ header-is bs)
+    lines : linesOf (made n m c ls p few) ≡ headerNumbers bs ∷ ls
+    lines = made-lines n m c ls p few ∙ ap (λ (z : List ℤ). z ∷ ls) (ap₂ (λ (a b : ℤ). a ∷ b ∷ c ∷ []) (sym (sh .depth-is)) (sym (sh .count-is)) ∙ header-is bs (header-form bs none))
 
 -- writing what was read gives the same bytes
 pub written-read : (bs : Bytes) → readRefusal bs ≡ 0 → WrittenRead bs

@@ -7,13 +7,13 @@ use Prim.Native.Nat.{ℕ}
 use Prim.Native.Char.{code}
 use Prim.Native.String.{String, [] as []ˢ, _∷_ as _∷ˢ_}
 use lib.Dec.{eqb}
-use Rattle.integers.specs.Lists.{all, any, tab, repeats}
+use Rattle.integers.specs.Lists.{all, any, first, tab, repeats}
 use Rattle.integers.specs.Vector.{dots, eqZ, eqV}
 use Rattle.nest.specs.Nest.{toℕ, part, limitsOf, timeOf, dependencesOf, weightsOf, padded, nestOf, emptyNest}
 use Rattle.nest.specs.Points.{extent, pointCount}
 use Rattle.nest.specs.Refusals.{number, outside, crossed, outOfSpan, backward, holds, firstMet, orElse}
 use Rattle.nest_text.specs.Fields.{Bytes, blanksOf, allDigits, valueOf, digitsOf, signedOf, readOf}
-use Rattle.nest_text.specs.Text.{isLine, numbersOf, areLines, lineNumbers, widths, headed, nestFrom, headerOf, widthsOf, bodyOf, readRefusal}
+use Rattle.nest_text.specs.Text.{isLine, numbersOf, areLines, lineNumbers, widths, shapes, fits, firstFitting, isHeaded, headerWidthOf, headerNumbers, headed, headerOf, restOf, isShaped, bodyNumbers, nestFrom, bodyOf, readRefusal}
 
 unfoldable pub bytes : String → Bytes
 bytes []ˢ = []
@@ -77,5 +77,5 @@ cases =
     ∷ []
 
 pub answers-are : all (λ c. eqb (readRefusal (c .text)) (c .answer)) cases ≡ true
-unfolding all any tab repeats dots eqZ eqV toℕ part limitsOf timeOf dependencesOf weightsOf padded nestOf emptyNest extent pointCount number outside crossed outOfSpan backward holds firstMet orElse blanksOf allDigits valueOf digitsOf signedOf readOf isLine numbersOf areLines lineNumbers widths headed nestFrom headerOf widthsOf bodyOf readRefusal bytes lines oneLoop plain cases flatMap
+unfolding all any first tab repeats dots eqZ eqV toℕ part limitsOf timeOf dependencesOf weightsOf padded nestOf emptyNest extent pointCount number outside crossed outOfSpan backward holds firstMet orElse blanksOf allDigits valueOf digitsOf signedOf readOf isLine numbersOf areLines lineNumbers widths shapes fits firstFitting isHeaded headerWidthOf headerNumbers headed headerOf restOf isShaped bodyNumbers nestFrom bodyOf readRefusal bytes lines oneLoop plain cases flatMap
 answers-are = refl

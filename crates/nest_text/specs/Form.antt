@@ -2,15 +2,15 @@
 -- LineBack.antt for Text.isLine and Text.areLines, Answers.antt for Text.readRefusal, SaysLaws.antt for it and Text.readNest.
 -- Assumes nothing.
 use mathlib.Core.Path.{_≡_}
-use mathlib.Core.List.{List, [], _∷_, _++_, map}
+use mathlib.Core.List.{List, [], _∷_, _++_, map, List·Memᴰ}
 use Prim.Native.Nat.{ℕ, _+_, _*_, _^_, _<_}
 use lib.IntN.{ℤ, pos, negℤ}
 use lib.ListN.{length, getD, replicate}
 use Rattle.nest.specs.declared.LoopNest.{LoopNest}
-use Rattle.nest.specs.Nest.{toℕ, cleared, emptyNest}
+use Rattle.nest.specs.Nest.{cleared, emptyNest}
 use Rattle.nest.specs.Refusals.{Refusal, headerOrder, bodyOrder, refusal, Condition, Order, Answered, numbered}
 use Rattle.nest_text.specs.Fields.{Bytes, newline}
-use Rattle.nest_text.specs.Text.{linesOf, textOf, widths, headed, readNest}
+use Rattle.nest_text.specs.Text.{linesOf, textOf, headerWidths, Shape, shapesOf, headed, readNest}
 
 -- ---- a number in columns
 
@@ -66,19 +66,26 @@ pub record Whole (bs : Bytes) (s : LoopNest) : Type 0 where
 
 -- ---- what reading answers
 
+-- line 1 says these numbers, as many as it may have fields, and the rest stands behind it
+abbrev pub FirstLine : Bytes → List ℤ → Bytes → Type 0
+FirstLine bs zs rest = List·Memᴰ (length zs) headerWidths × Begins bs zs rest
+
 -- line 1 is not in form
 abbrev pub LineMalformed : Bytes → Type 0
-LineMalformed bs = (n m c : ℤ) (rest : Bytes) → Begins bs (n ∷ m ∷ c ∷ []) rest → ⊥
+LineMalformed bs = (zs : List ℤ) (rest : Bytes) → FirstLine bs zs rest → ⊥
 
--- line 1 says n, m and c, and a nest of these meets the condition
+-- line 1 says numbers, and a nest of these meets the condition
 abbrev pub LineMeets : Bytes → Refusal → Type 0
-LineMeets bs r = (n : ℤ) × (m : ℤ) × (c : ℤ) × (rest : Bytes) × Begins bs (n ∷ m ∷ c ∷ []) rest × Condition (headed (n ∷ m ∷ c ∷ [])) r
+LineMeets bs r = (zs : List ℤ) × (rest : Bytes) × FirstLine bs zs rest × Condition (headed zs) r
 
--- line 1 says n, m and c, and the rest is not the lines that n and m ask for
+-- the bytes are lines of one of the listed shapes
+abbrev pub Shaped : Bytes → List Shape → Type 0
+Shaped bs ws = (ls : List (List ℤ)) × List·Memᴰ (map length ls) ws × Consists bs ls
+
+-- line 1 says numbers, and the rest has none of the shapes that they allow
 abbrev pub RestMalformed : Bytes → Type 0
 RestMalformed bs =
-    (n : ℤ) × (m : ℤ) × (c : ℤ) × (rest : Bytes) × Begins bs (n ∷ m ∷ c ∷ []) rest
-    × ((ls : List (List ℤ)) → map length ls ≡ widths (toℕ n) (toℕ m) → Consists rest ls → ⊥)
+    (zs : List ℤ) × (rest : Bytes) × FirstLine bs zs rest × (Shaped rest (shapesOf (headed zs)) → ⊥)
 
 -- the text says a nest that meets the condition
 abbrev pub NestMeets : Bytes → Refusal → Type 0

@@ -13,7 +13,8 @@ use Rattle.nest_text.specs.declared.Reading.{Reading}
 use Rattle.nest_text.specs.declared.reader.Line.{Line}
 use Rattle.nest_text.specs.declared.reader.Body.{Body}
 use Rattle.nest_text.specs.Fields.{Bytes}
-use Rattle.nest_text.specs.Text.{at, isLine, numbersOf, areLines, lineNumbers, headerWidth, widths, headerOf, nestFrom, malformedUnless}
+use Rattle.nest_text.specs.Text.{at, isLine, numbersOf, lineNumbers, shapes, fits, firstFitting}
+use Rattle.nest_text.specs.Text.{isHeaded, headerOf, nestFrom, malformedUnless}
 
 -- the most fields that a line has: the boundary value and the weights
 abbrev pub maxFields : ℕ
@@ -28,7 +29,7 @@ lineOf k bs = elim (isLine k bs) [
 
 -- line 1's form; 2, 3, 4
 unfoldable pub headerRefusal : Bytes → ℕ
-headerRefusal bs = orElse (malformedUnless (isLine headerWidth bs)) (firstMet (headerOf bs) headerOrder)
+headerRefusal bs = orElse (malformedUnless (isHeaded bs)) (firstMet (headerOf bs) headerOrder)
 
 -- what is read of line 1; 0 in every place where it is refused
 unfoldable pub headerRead : Bytes → Reading
@@ -119,7 +120,7 @@ filled n m c ls =
 
 -- the lines behind line 1: whether all are in form, and then their nest
 unfoldable pub bodyRead : ℕ → ℕ → ℤ → Bytes → Body
-bodyRead n m c bs = elim (areLines (widths n m) bs) [
-  | true ↦ record { ok = true; nest = nestFrom n m c (lineNumbers (widths n m) bs) }
+bodyRead n m c bs = elim (fits (shapes n m) bs) [
+  | true ↦ record { ok = true; nest = nestFrom n m c (lineNumbers (firstFitting (shapes n m) bs) bs) }
   | false ↦ record { ok = false; nest = emptyNest }
 ]

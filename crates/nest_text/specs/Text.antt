@@ -7,9 +7,9 @@ use Prim.Native.Nat.{ℕ, _+_, _*_, _<_}
 use lib.Dec.{eqb}
 use lib.IntN.{ℤ, pos}
 use lib.ListN.{length, getD, take, drop, replicate}
-use Rattle.integers.specs.Lists.{any, tab}
+use Rattle.integers.specs.Lists.{any, first, tab}
 use Rattle.nest.specs.declared.LoopNest.{LoopNest}
-use Rattle.nest.specs.Nest.{depthOf, countOf, limitsOf, timeOf, dependencesOf, weightsOf, nestOf, emptyNest, maxDepth, maxDependences}
+use Rattle.nest.specs.Nest.{Limit, depthOf, countOf, limitsOf, timeOf, dependencesOf, weightsOf, nestOf, emptyNest, maxDepth, maxDependences}
 use Rattle.nest.specs.Refusals.{firstMet, headerOrder, bodyOrder, refusal, orElse, shortBuffer, tableAfter, Order, nestOrder}
 use Rattle.nest_text.specs.declared.Reading.{Reading}
 use Rattle.nest_text.specs.declared.Writing.{Writing}
@@ -49,12 +49,14 @@ textOf s = flatMap line (linesOf s)
 abbrev pub textLength : ℕ → ℕ → ℕ
 textLength n m = lineLength headerWidth + lineLength limitWidth * n + lineLength n * (m + 1) + lineLength (m + 1)
 
--- ---- reading
+-- ---- lines read
 
+-- the field holds no number
 abbrev pub isMalformed : Field → Bool
 isMalformed (Number z) = false
 isMalformed Malformed = true
 
+-- the number that it holds
 abbrev pub numberOf : Field → ℤ
 numberOf (Number z) = z
 numberOf Malformed = pos 0
@@ -85,14 +87,55 @@ unfoldable pub lineNumbers : List ℕ → Bytes → List (List ℤ)
 lineNumbers [] bs = []
 lineNumbers (k ∷ ks) bs = numbersOf k bs ∷ lineNumbers ks (behind k bs)
 
--- the numbers of fields of the lines behind line 1: n lines of limits, the time vector, m dependences, boundary value and weights
-unfoldable pub widths : ℕ → ℕ → List ℕ
-widths n m = replicate n limitWidth ++ (n ∷ (replicate m n ++ ((1 + m) ∷ [])))
-
+-- number i of a line; 0 where it has none
 abbrev pub at : List ℤ → ℕ → ℤ
 at zs i = getD zs i (pos 0)
 
--- the numbers of line 1, with 0 in every other place
+-- ---- the form of a text: the numbers of fields that its lines may have
+
+-- those that line 1 may have
+abbrev pub headerWidths : List ℕ
+headerWidths = headerWidth ∷ []
+
+-- a shape: the numbers of fields of the lines behind line 1, in their order
+abbrev pub Shape : Type 0
+Shape = List ℕ
+
+-- n lines of limits, the time vector, m dependences, and the boundary value with m weights
+unfoldable pub widths : ℕ → ℕ → Shape
+widths n m = replicate n limitWidth ++ (n ∷ (replicate m n ++ ((1 + m) ∷ [])))
+
+-- the shapes that the text of n loops with m dependences may have
+unfoldable pub shapes : ℕ → ℕ → List Shape
+shapes n m = widths n m ∷ []
+
+-- those that the numbers of line 1, as a nest, allow
+abbrev pub shapesOf : LoopNest → List Shape
+shapesOf s = shapes (depthOf s) (countOf s)
+
+-- one of the listed shapes fits the bytes
+unfoldable pub fits : List Shape → Bytes → Bool
+fits ws bs = any (λ w. areLines w bs) ws
+
+-- the first of them that does; no lines where none does
+unfoldable pub firstFitting : List Shape → Bytes → Shape
+firstFitting ws bs = getD (first (λ w. areLines w bs) ws) 0 []
+
+-- ---- line 1
+
+-- it has one of the listed numbers of fields
+unfoldable pub isHeaded : Bytes → Bool
+isHeaded bs = any (λ k. isLine k bs) headerWidths
+
+-- the first of them that it has; no fields where it has none of them
+unfoldable pub headerWidthOf : Bytes → ℕ
+headerWidthOf bs = getD (first (λ k. isLine k bs) headerWidths) 0 0
+
+-- its numbers
+unfoldable pub headerNumbers : Bytes → List ℤ
+headerNumbers bs = numbersOf (headerWidthOf bs) bs
+
+-- numbers of line 1 in a nest, with 0 in every other place
 unfoldable pub headed : List ℤ → LoopNest
 headed zs = record {
   depth = at zs 0;
@@ -106,21 +149,36 @@ headed zs = record {
   weights = replicate maxDependences (pos 0);
 }
 
--- the nest of depth n with m dependences and cube dimension c whose lines behind line 1 hold these numbers
+-- what line 1 says, where it is in form
+unfoldable pub headerOf : Bytes → LoopNest
+headerOf bs = headed (headerNumbers bs)
+
+-- ---- the lines behind line 1
+
+-- their bytes
+unfoldable pub restOf : Bytes → Bytes
+restOf bs = behind (headerWidthOf bs) bs
+
+-- they have one of the shapes that line 1 allows
+unfoldable pub isShaped : Bytes → Bool
+isShaped bs = fits (shapesOf (headerOf bs)) (restOf bs)
+
+-- their numbers, by the first of these shapes that fits
+unfoldable pub bodyNumbers : Bytes → List (List ℤ)
+bodyNumbers bs = lineNumbers (firstFitting (shapesOf (headerOf bs)) (restOf bs)) (restOf bs)
+
+-- the nest of n loops with m dependences and cube dimension c whose lines behind line 1 hold these numbers
 unfoldable pub nestFrom : ℕ → ℕ → ℤ → List (List ℤ) → LoopNest
 nestFrom n m c ls =
+    let limits : List Limit = map (λ l. record { lower = at l 0; upper = at l 1 }) (take n ls) in
     let last = getD ls (n + 1 + m) [] in
-    nestOf c (map (λ l. record { lower = at l 0; upper = at l 1 }) (take n ls)) (getD ls n []) (take m (drop (n + 1) ls)) (at last 0) (drop 1 last)
+    nestOf c limits (getD ls n []) (take m (drop (n + 1) ls)) (at last 0) (drop 1 last)
 
--- what the text's line 1 says, and what all of it says, where it is in form
-unfoldable pub headerOf : Bytes → LoopNest
-headerOf bs = headed (numbersOf headerWidth bs)
-
-unfoldable pub widthsOf : Bytes → List ℕ
-widthsOf bs = widths (depthOf (headerOf bs)) (countOf (headerOf bs))
-
+-- what the whole text says, where it is in form
 unfoldable pub bodyOf : Bytes → LoopNest
-bodyOf bs = nestFrom (depthOf (headerOf bs)) (countOf (headerOf bs)) (headerOf bs .cube) (lineNumbers (widthsOf bs) (behind headerWidth bs))
+bodyOf bs = nestFrom (depthOf (headerOf bs)) (countOf (headerOf bs)) (headerOf bs .cube) (bodyNumbers bs)
+
+-- ---- what reading answers
 
 -- 1, where the form is not kept
 abbrev pub malformedUnless : Bool → ℕ
@@ -130,17 +188,18 @@ malformedUnless false = 1
 -- line 1's form; 2, 3, 4; the form of the other lines; 5 to 13
 unfoldable pub readRefusal : Bytes → ℕ
 readRefusal bs =
-    orElse (malformedUnless (isLine headerWidth bs))
+    orElse (malformedUnless (isHeaded bs))
     (orElse (firstMet (headerOf bs) headerOrder)
-    (orElse (malformedUnless (areLines (widthsOf bs) (behind headerWidth bs))) (firstMet (bodyOf bs) bodyOrder)))
+    (orElse (malformedUnless (isShaped bs)) (firstMet (bodyOf bs) bodyOrder)))
 
 -- the nest that is read; 0 in every place where the text is refused
 unfoldable pub readNest : Bytes → LoopNest
 readNest bs = elim (eqb (readRefusal bs) 0) [ true ↦ bodyOf bs | false ↦ emptyNest ]
 
--- the bytes that are looked at: the longest text, and one more (proofs/ReadPrefix.antt: those behind them change nothing)
+-- the bytes that are looked at: the longest text, and one more
+-- (proofs/ReadPrefix.antt: those behind them change nothing)
 abbrev pub readMost : ℕ
-readMost = 285
+readMost = textLength maxDepth maxDependences + 1
 
 -- ---- writing into a lent buffer: a call that is refused with a number, or not if it is 0, and has these bytes to write
 

@@ -19,7 +19,8 @@ use Rattle.nest.specs.Points.{extent, indices, points, pointsOf, pointCount, ra
 use Rattle.nest.specs.Refusals.{number, outside, crossed, outOfSpan, backward, holds, firstMet, refusal, orElse}
 use Rattle.nest.specs.Sources.{sourceRank}
 use Rattle.nest_text.specs.Fields.{Bytes, blanksOf, allDigits, valueOf, digitsOf, signedOf, readOf, digitsTo, numeralOf, fieldOf}
-use Rattle.nest_text.specs.Text.{line, linesOf, textOf, isLine, numbersOf, areLines, lineNumbers, widths, headed, nestFrom, headerOf, widthsOf, bodyOf, readRefusal, readNest}
+use Rattle.nest_text.specs.Text.{line, linesOf, textOf, isLine, numbersOf, areLines, lineNumbers, widths, shapes, fits, firstFitting}
+use Rattle.nest_text.specs.Text.{isHeaded, headerWidthOf, headerNumbers, headed, headerOf, restOf, isShaped, bodyNumbers, nestFrom, bodyOf, readRefusal, readNest}
 use Rattle.nest_text.specs.Examples.{bytes, lines}
 use Rattle.grouping.specs.Projection.{projection, divides, makesWhole, multiplier, groupSize}
 use Rattle.integers.specs.Extremes.{leastZ, greatestZ}
@@ -207,5 +208,5 @@ table =
     ∷ []
 
 pub examples-hold : all (λ c. all (says (c .nest)) (c .facts)) table ≡ true
-unfolding any all first place firstsAfter firsts count repeats tab greatest firstFrom dots plus times eqZ eqV isZeroV floorDiv toℕ part limitsOf timeOf dependencesOf weightsOf padded nestOf emptyNest extent indices points pointsOf pointCount rank isPoint source number outside crossed outOfSpan backward holds firstMet refusal orElse sourceRank blanksOf allDigits valueOf digitsOf signedOf readOf digitsTo numeralOf fieldOf line linesOf isLine numbersOf areLines lineNumbers widths headed nestFrom headerOf widthsOf bodyOf readRefusal readNest textOf bytes lines projection divides makesWhole multiplier groupSize leastZ step pivot clear remainder mayGroup groupingVector extend chosenVectors chosenCount latest coefficients left isCombination frame directions difference sameClass coordinates seeds eqG quotients classNumber group blocks blockNumber stepsOf stepCount frameOf groupsOf blocksOf blockCount inOrder greatestZ direction undealt takesBit withBit noDirection nextTurn dealBit dealBits dealt gray partOf joined processor directionsOf processorsOf processorCount crosses isMessage total messageCount sourceValue madeOf loop sequential sum weightedSum ruleOf valuesOf countsOf rowOf planLines planText listing eqN below isSome pairs says vector nestWith L1 L2 two one ungrouped uneven listed listedText listedPlan table flatMap zipWith
+unfolding any all first place firstsAfter firsts count repeats tab greatest firstFrom dots plus times eqZ eqV isZeroV floorDiv toℕ part limitsOf timeOf dependencesOf weightsOf padded nestOf emptyNest extent indices points pointsOf pointCount rank isPoint source number outside crossed outOfSpan backward holds firstMet refusal orElse sourceRank blanksOf allDigits valueOf digitsOf signedOf readOf digitsTo numeralOf fieldOf line linesOf isLine numbersOf areLines lineNumbers widths shapes fits firstFitting isHeaded headerWidthOf headerNumbers headed headerOf restOf isShaped bodyNumbers nestFrom bodyOf readRefusal readNest textOf bytes lines projection divides makesWhole multiplier groupSize leastZ step pivot clear remainder mayGroup groupingVector extend chosenVectors chosenCount latest coefficients left isCombination frame directions difference sameClass coordinates seeds eqG quotients classNumber group blocks blockNumber stepsOf stepCount frameOf groupsOf blocksOf blockCount inOrder greatestZ direction undealt takesBit withBit noDirection nextTurn dealBit dealBits dealt gray partOf joined processor directionsOf processorsOf processorCount crosses isMessage total messageCount sourceValue madeOf loop sequential sum weightedSum ruleOf valuesOf countsOf rowOf planLines planText listing eqN below isSome pairs says vector nestWith L1 L2 two one ungrouped uneven listed listedText listedPlan table flatMap zipWith
 examples-hold = refl
