@@ -1,4 +1,5 @@
--- A field that was written is read back, and digits that were read are written again as they stood; Numerals.antt has the whole field.
+-- A field that was written is read back, and digits that were read are written again as they stood;
+-- Numerals.antt has the whole field.
 use mathlib.Core.Path.{_≡_, refl, sym, ap, _∙_}
 use mathlib.Core.Bool.{Bool, true, false, _&&_, cond}
 use mathlib.Core.List.{List, [], _∷_, _++_, append-nil}

@@ -1,4 +1,5 @@
--- The theorems about texts (Numerals, LineBack, RoundTrip, SaysLaws, ReadPrefix), and the laws that the functions' proofs share.
+-- The theorems about texts (Numerals, LineBack, RoundTrip, SaysLaws, ReadPrefix), and the laws that
+-- the functions' proofs share.
 pub mod RoundTrip
 pub mod Answers
 pub mod ReadPrefix

@@ -1,4 +1,5 @@
--- Lines that were written are read back as their numbers, and lines that were read are written again as they stood; the tests of lines are the document's words.
+-- Lines that were written are read back as their numbers, and lines that were read are written
+-- again as they stood; the tests of lines are the document's words.
 -- Assumes nothing.
 use mathlib.Core.Path.{_≡_, refl, sym, ap, ap₂, subst, _∙_}
 use mathlib.Core.Bool.{Bool, true, false, not, _&&_}

@@ -1,4 +1,5 @@
--- A number in columns: what is read of bytes is the number that they say in the document's words, and six bytes say a number exactly if they are the number's field.
+-- A number in columns: what is read of bytes is the number that they say in the document's words,
+-- and six bytes say a number exactly if they are the number's field.
 -- Assumes nothing.
 use mathlib.Core.Path.{_≡_, refl, sym, ap, ap₂, subst, _∙_}
 use mathlib.Core.Bool.{Bool, true, false, _&&_, cond}

@@ -1,4 +1,5 @@
--- The round trip: the text of an accepted nest is read as that nest with 0 in the places that are no part of it, and an accepted text is written again byte for byte.
+-- The round trip: the text of an accepted nest is read as that nest with 0 in the places that are
+-- no part of it, and an accepted text is written again byte for byte.
 -- Assumes nothing.
 use mathlib.Core.Path.{_≡_, refl, sym, ap, ap₂, subst, _∙_}
 use mathlib.Core.Bool.{true}
@@ -77,7 +78,8 @@ lines-each [] h zs m = elim m [ ]
 lines-each (l ∷ ls) h zs (List·Memᴰ·head e) = subst AllInColumns (sym e) (h .0)
 lines-each (l ∷ ls) h zs (List·Memᴰ·tail m) = lines-each ls (h .1) zs m
 
--- every number that is written for an accepted nest is from -99999 to 999999, and its field has six bytes
+-- every number that is written for an accepted nest is from -99999 to 999999, and its field has six
+-- bytes
 pub fits-columns : (s : LoopNest) → refusal s ≡ 0 → (zs : List ℤ) → List·Memᴰ zs (linesOf s) → (z : ℤ) → List·Memᴰ z zs
     → (negsuc 99998 ≤ℤ z) × (z ≤ℤ pos 999999) × (length (fieldOf z) ≡ 6)
 fits-columns s e zs m z n =

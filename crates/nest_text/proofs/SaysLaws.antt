@@ -1,4 +1,5 @@
--- What reading a text answers is what document 01's sentences say of it (specs/Form.antt, ReadSays): they say what is answered, and leave no choice.
+-- What reading a text answers is what document 01's sentences say of it (specs/Form.antt,
+-- ReadSays): they say what is answered, and leave no choice.
 -- Assumes nothing.
 use mathlib.Core.Path.{_≡_, refl, sym, ap, subst, _∙_}
 use mathlib.Core.Logic.{_↔_}

@@ -1,4 +1,5 @@
--- The listed numbers of fields of line 1 and the listed shapes of the lines behind it: what the first that fits is, and what it is where one is listed.
+-- The listed numbers of fields of line 1 and the listed shapes of the lines behind it: what the
+-- first that fits is, and what it is where one is listed.
 -- Assumes nothing.
 use mathlib.Core.Path.{_≡_, refl, sym, ap, ap₂, subst, _∙_}
 use mathlib.Core.Bool.{Bool, true, false}

@@ -1,4 +1,5 @@
--- The ways out of a call that writes bytes into a lent buffer (refused before it looks at the buffer, a short buffer, the bytes written), and what it leaves.
+-- The ways out of a call that writes bytes into a lent buffer (refused before it looks at the
+-- buffer, a short buffer, the bytes written), and what it leaves.
 -- Assumes nothing.
 use mathlib.Core.Path.{_≡_, refl, sym, ap, ap₂, _∙_}
 use mathlib.Core.Bool.{true, false}

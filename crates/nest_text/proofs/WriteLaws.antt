@@ -1,4 +1,5 @@
--- Laws of what the writer leaves in a buffer: bytes stored one run after the other, and the lengths of fields and lines.
+-- Laws of what the writer leaves in a buffer: bytes stored one run after the other, and the lengths
+-- of fields and lines.
 -- Assumes nothing.
 use mathlib.Core.Path.{_≡_, refl, sym, ap, subst, _∙_}
 use mathlib.Core.List.{List, [], _∷_, _++_, flatMap, append-assoc}

@@ -1,4 +1,5 @@
--- Texts that a reader of document 01 would try, with the answers that it gives, as one table; `answers-are` checks all of it on the definitions, by computation.
+-- Texts that a reader of document 01 would try, with the answers that it gives, as one table;
+-- `answers-are` checks all of it on the definitions, by computation.
 -- Assumes nothing.
 use mathlib.Core.Path.{_≡_, refl}
 use mathlib.Core.Bool.{true}
@@ -12,34 +13,53 @@ use Rattle.integers.specs.Vector.{dots, eqZ, eqV}
 use Rattle.nest.specs.Nest.{toℕ, part, limitsOf, timeOf, dependencesOf, weightsOf, padded, nestOf, emptyNest}
 use Rattle.nest.specs.Points.{extent, pointCount}
 use Rattle.nest.specs.Refusals.{number, outside, crossed, outOfSpan, backward, holds, firstMet, orElse}
-use Rattle.nest_text.specs.Fields.{Bytes, blanksOf, allDigits, valueOf, digitsOf, signedOf, readOf}
-use Rattle.nest_text.specs.Text.{isLine, numbersOf, areLines, lineNumbers, widths, shapes, fits, firstFitting, isHeaded, headerWidthOf, headerNumbers, headed, headerOf, restOf, isShaped, bodyNumbers, nestFrom, bodyOf, readRefusal}
+use Rattle.nest_text.specs.Fields.{Bytes, newline, space, blanksOf, allDigits, valueOf, digitsOf, signedOf, readOf}
+use Rattle.nest_text.specs.Text.{isLine, numbersOf, areLines, lineNumbers, widths, shapes, fits, firstFitting}
+use Rattle.nest_text.specs.Text.{isHeaded, headerWidthOf, headerNumbers, headed, headerOf}
+use Rattle.nest_text.specs.Text.{restOf, isShaped, bodyNumbers, nestFrom, bodyOf, readRefusal}
 
+-- the bytes of a text
 unfoldable pub bytes : String → Bytes
 bytes []ˢ = []
 bytes (c ∷ˢ s) = code c ∷ bytes s
 
 -- each line with its byte 10
 unfoldable pub lines : List String → Bytes
-lines ts = flatMap (λ t. bytes t ++ (10 ∷ [])) ts
+lines ts = flatMap (λ t. bytes t ++ (newline ∷ [])) ts
 
 -- a text and the number that reading it answers
 pub record Case : Type 0 where
   pub text : Bytes
   pub answer : ℕ
 
--- one loop, one dependence, with these three lines in its midst
+-- one loop, one dependence, with these lines of limits, of the time vector and of the weights
 unfoldable pub oneLoop : String → String → String → List String
 oneLoop limits time last = "     1     1     0" ∷ limits ∷ time ∷ "     1" ∷ last ∷ []
 
+-- such a text, which is accepted
 unfoldable pub plain : List String
 plain = oneLoop "     0     3" "     1" "     1     1"
 
+-- without its last line
+unfoldable pub unended : List String
+unended = "     1     1     0" ∷ "     0     3" ∷ "     1" ∷ "     1" ∷ []
+
+-- the sheet of document 01's listing
+unfoldable pub listed : List String
+listed =
+    "     2     2     1"
+    ∷ "     0     1" ∷ "     0     2"
+    ∷ "     1     1"
+    ∷ "     0     1" ∷ "     1     0"
+    ∷ "     1     2     3"
+    ∷ []
+
+-- the texts and their answers
 unfoldable pub cases : List Case
 cases =
     record { text = lines plain; answer = 0 }
     -- document 01's own text
-    ∷ record { text = lines ("     2     2     1" ∷ "     0     1" ∷ "     0     2" ∷ "     1     1" ∷ "     0     1" ∷ "     1     0" ∷ "     1     2     3" ∷ []); answer = 0 }
+    ∷ record { text = lines listed; answer = 0 }
     -- nothing at all, and a first line that does not end
     ∷ record { text = []; answer = 1 }
     ∷ record { text = bytes "     1     1     0"; answer = 1 }
@@ -51,8 +71,8 @@ cases =
     ∷ record { text = lines ("     1     1     0" ∷ []); answer = 1 }
     -- a line too many, a byte too many, no last byte 10
     ∷ record { text = lines (plain ++ ("     1" ∷ [])); answer = 1 }
-    ∷ record { text = lines plain ++ (32 ∷ []); answer = 1 }
-    ∷ record { text = lines ("     1     1     0" ∷ "     0     3" ∷ "     1" ∷ "     1" ∷ []) ++ bytes "     1     1"; answer = 1 }
+    ∷ record { text = lines plain ++ (space ∷ []); answer = 1 }
+    ∷ record { text = lines unended ++ bytes "     1     1"; answer = 1 }
     -- CR before byte 10, a tab, a plus sign, a blank field, a digit before a space
     ∷ record { text = lines (oneLoop "     0     3" "     1\r" "     1     1"); answer = 1 }
     ∷ record { text = lines (oneLoop "     0     3" "\t    1" "     1     1"); answer = 1 }
@@ -76,6 +96,11 @@ cases =
     ∷ record { text = lines (oneLoop "     0     3" "     1" "     1   256"); answer = 13 }
     ∷ []
 
+-- each text is answered so
 pub answers-are : all (λ c. eqb (readRefusal (c .text)) (c .answer)) cases ≡ true
-unfolding all any first tab repeats dots eqZ eqV toℕ part limitsOf timeOf dependencesOf weightsOf padded nestOf emptyNest extent pointCount number outside crossed outOfSpan backward holds firstMet orElse blanksOf allDigits valueOf digitsOf signedOf readOf isLine numbersOf areLines lineNumbers widths shapes fits firstFitting isHeaded headerWidthOf headerNumbers headed headerOf restOf isShaped bodyNumbers nestFrom bodyOf readRefusal bytes lines oneLoop plain cases flatMap
+unfolding all any first tab repeats dots eqZ eqV toℕ part limitsOf timeOf dependencesOf weightsOf padded nestOf
+    emptyNest extent pointCount number outside crossed outOfSpan backward holds firstMet orElse blanksOf
+    allDigits valueOf digitsOf signedOf readOf isLine numbersOf areLines lineNumbers widths shapes fits
+    firstFitting isHeaded headerWidthOf headerNumbers headed headerOf restOf isShaped bodyNumbers nestFrom
+    bodyOf readRefusal bytes lines oneLoop plain unended listed cases flatMap
 answers-are = refl

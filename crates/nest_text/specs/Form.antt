@@ -1,5 +1,7 @@
--- The form of a text, and what reading it answers, in document 01's words. proofs/ shows that what is computed is exactly this: Numerals.antt for Fields.readOf,
--- LineBack.antt for Text.isLine and Text.areLines, Answers.antt for Text.readRefusal, SaysLaws.antt for it and Text.readNest.
+-- The form of a text, and what reading it answers, in document 01's words. proofs/ shows that what
+-- is computed is exactly this: Numerals.antt for Fields.readOf, LineBack.antt for Text.isLine,
+-- Text.areLines and Text.fits, Answers.antt for Text.readRefusal, SaysLaws.antt for it and
+-- Text.readNest.
 -- Assumes nothing.
 use mathlib.Core.Path.{_≡_}
 use mathlib.Core.List.{List, [], _∷_, _++_, map, List·Memᴰ}
@@ -9,7 +11,7 @@ use lib.ListN.{length, getD, replicate}
 use Rattle.nest.specs.declared.LoopNest.{LoopNest}
 use Rattle.nest.specs.Nest.{cleared, emptyNest}
 use Rattle.nest.specs.Refusals.{Refusal, headerOrder, bodyOrder, refusal, Condition, Order, Answered, numbered}
-use Rattle.nest_text.specs.Fields.{Bytes, newline}
+use Rattle.nest_text.specs.Fields.{Bytes, columns, newline, space, minus, zeroDigit}
 use Rattle.nest_text.specs.Text.{linesOf, textOf, headerWidths, Shape, shapesOf, headed, readNest}
 
 -- ---- a number in columns
@@ -32,25 +34,30 @@ decimal (d ∷ ds) = d * 10 ^ length ds + decimal ds
 
 -- their bytes
 abbrev pub digitBytes : List ℕ → Bytes
-digitBytes ds = map (λ d. 48 + d) ds
+digitBytes ds = map (λ d. zeroDigit + d) ds
 
 -- the bytes say the number
 pub data Numeral (bs : Bytes) : ℤ → Type 0 where
   -- spaces, digits
-  digits-alone : (k : ℕ) (ds : List ℕ) → Decimal ds → bs ≡ replicate k 32 ++ digitBytes ds → Numeral bs (pos (decimal ds))
+  digits-alone : (k : ℕ) (ds : List ℕ) → Decimal ds → bs ≡ replicate k space ++ digitBytes ds
+      → Numeral bs (pos (decimal ds))
   -- spaces, a minus, digits; no minus zero
-  minus-digits : (k : ℕ) (ds : List ℕ) → Decimal ds → 0 < decimal ds → bs ≡ replicate k 32 ++ (45 ∷ digitBytes ds) → Numeral bs (negℤ (pos (decimal ds)))
+  minus-digits : (k : ℕ) (ds : List ℕ) → Decimal ds → 0 < decimal ds
+      → bs ≡ replicate k space ++ (minus ∷ digitBytes ds)
+      → Numeral bs (negℤ (pos (decimal ds)))
 
 -- six columns that say the number
 abbrev pub Column : Bytes → ℤ → Type 0
-Column bs z = (length bs ≡ 6) × Numeral bs z
+Column bs z = (length bs ≡ columns) × Numeral bs z
 
 -- ---- lines
 
--- the bytes begin with a line of these numbers: six columns for each, then byte 10; the rest stands behind it
+-- the bytes begin with a line of these numbers: six columns for each, then byte 10; the rest stands
+-- behind it
 abbrev pub Begins : Bytes → List ℤ → Bytes → Type 0
 Begins bs [] rest = bs ≡ newline ∷ rest
-Begins bs (z ∷ zs) rest = (column : Bytes) × (others : Bytes) × (bs ≡ column ++ others) × Column column z × Begins others zs rest
+Begins bs (z ∷ zs) rest =
+    (column : Bytes) × (others : Bytes) × (bs ≡ column ++ others) × Column column z × Begins others zs rest
 
 -- the bytes are lines of these numbers, one after the other, and nothing follows the last
 abbrev pub Consists : Bytes → List (List ℤ) → Type 0
@@ -59,7 +66,8 @@ Consists bs (zs ∷ ls) = (rest : Bytes) × Begins bs zs rest × Consists rest l
 
 -- ---- the whole text
 
--- it is in form and says the nest: it consists of the nest's lines, and places that they have no field for are 0
+-- it is in form and says the nest: it consists of the nest's lines, and places that they have no
+-- field for are 0
 pub record Whole (bs : Bytes) (s : LoopNest) : Type 0 where
   pub lines-are : Consists bs (linesOf s)
   pub other-places : cleared s ≡ s
@@ -91,11 +99,16 @@ RestMalformed bs =
 abbrev pub NestMeets : Bytes → Refusal → Type 0
 NestMeets bs r = (s : LoopNest) × Whole bs s × Condition s r
 
--- the refusals of a text in their order: line 1's form, then 2, 3, 4; the form of the remaining lines; then 5 to 13
+-- the refusals of a text in their order: line 1's form, then 2, 3, 4; the form of the remaining
+-- lines; then 5 to 13
 abbrev pub readOrder : Bytes → Order
-readOrder bs = (1, LineMalformed bs) ∷ (numbered (LineMeets bs) headerOrder ++ ((1, RestMalformed bs) ∷ numbered (NestMeets bs) bodyOrder))
+readOrder bs =
+    (1, LineMalformed bs)
+    ∷ (numbered (LineMeets bs) headerOrder
+    ++ ((1, RestMalformed bs) ∷ numbered (NestMeets bs) bodyOrder))
 
--- a number and a nest: the number is what the order answers; the nest is what the text says where that is 0, and 0 in every place where the text is refused
+-- a number and a nest: the number is what the order answers; the nest is what the text says where
+-- that is 0, and 0 in every place where the text is refused
 pub record ReadSays (bs : Bytes) (k : ℕ) (x : LoopNest) : Type 0 where
   pub number-is : Answered (readOrder bs) k
   pub nest-said : k ≡ 0 → Whole bs x
@@ -103,7 +116,8 @@ pub record ReadSays (bs : Bytes) (k : ℕ) (x : LoopNest) : Type 0 where
 
 -- ---- read and written
 
--- what was read is written again as it stood; it is an accepted nest, with 0 in the places that are no part of it
+-- what was read is written again as it stood; it is an accepted nest, with 0 in the places that are
+-- no part of it
 pub record WrittenRead (bs : Bytes) : Type 0 where
   pub same-bytes : textOf (readNest bs) ≡ bs
   pub accepted : refusal (readNest bs) ≡ 0

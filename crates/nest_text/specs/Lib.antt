@@ -1,4 +1,5 @@
--- The text of a loop nest: fields in six columns, lines, and the whole; what the reader's and the writer's functions do on the way.
+-- The text of a loop nest: fields in six columns, lines, and the whole (Fields, Text, Form,
+-- Examples); what the functions of the reader and the writer do on the way (Reader, Stored).
 pub mod Fields
 pub mod Text
 pub mod Reader

@@ -1,4 +1,5 @@
--- The steps of the reader: a line as the code holds it, and the nest as it is filled line by line.
+-- Serves the contracts of inner functions alone: the steps of the reader, a line as the code holds
+-- it and the nest as it is filled line by line.
 -- Assumes nothing.
 use mathlib.Core.Bool.{true, false}
 use mathlib.Core.List.{List, [], _++_, map, flatMap}
@@ -33,7 +34,10 @@ headerRefusal bs = orElse (malformedUnless (isHeaded bs)) (firstMet (headerOf bs
 
 -- what is read of line 1; 0 in every place where it is refused
 unfoldable pub headerRead : Bytes → Reading
-headerRead bs = record { refusal = headerRefusal bs; nest = elim (eqb (headerRefusal bs) 0) [ true ↦ headerOf bs | false ↦ emptyNest ] }
+headerRead bs = record {
+  refusal = headerRefusal bs;
+  nest = elim (eqb (headerRefusal bs) 0) [ true ↦ headerOf bs | false ↦ emptyNest ];
+}
 
 -- ---- the nest with one line more
 
@@ -74,7 +78,9 @@ withDependenceLine s i row = record {
   lower = s .lower;
   upper = s .upper;
   time = s .time;
-  dependences = take (i * maxDepth) (s .dependences) ++ (take maxDepth row ++ drop (i * maxDepth + maxDepth) (s .dependences));
+  dependences =
+      take (i * maxDepth) (s .dependences)
+      ++ (take maxDepth row ++ drop (i * maxDepth + maxDepth) (s .dependences));
   boundary = s .boundary;
   weights = s .weights;
 }
@@ -103,7 +109,8 @@ withLine n m s i row = elim (ltb i n) [
   ]
 ]
 
--- the nest of depth n with m dependences and cube dimension c of which these lines are read; 0 in every place of the others
+-- the nest of n loops with m dependences and cube dimension c of which these lines are read; 0 in
+-- every place of the others
 unfoldable pub filled : ℕ → ℕ → ℤ → List (List ℤ) → LoopNest
 filled n m c ls =
     let last = getD ls (n + 1 + m) [] in record {

@@ -1,4 +1,5 @@
--- What a function that writes bytes into a lent buffer leaves there, and which numbers it may be given.
+-- Serves the contracts of inner functions alone: what a function that writes bytes into a lent
+-- buffer leaves there, and which numbers it may be given.
 -- Assumes nothing.
 use mathlib.Core.Path.{_≡_}
 use mathlib.Core.Bool.{true}
@@ -9,7 +10,8 @@ use lib.ListN.{length, getD}
 use lib.Seq.{sets}
 use Rattle.nest_text.specs.Fields.{Bytes, leastNumber, greatestNumber, within}
 
--- the bytes bs stand from place `at` on, every other byte is as it was, and `end` is the place behind them
+-- the bytes bs stand from place `at` on, every other byte is as it was, and `end` is the place
+-- behind them
 pub record Stored (old : Bytes) (at : ℕ) (bs : Bytes) (new : Bytes) (end : ℕ) : Type 0 where
   pub bytes : new ≡ sets old at bs
   pub ends : end ≡ at + length bs

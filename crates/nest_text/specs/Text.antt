@@ -1,4 +1,5 @@
--- The text of a loop nest (document 01, "The sheet"): what is written for a nest, and what a text is read as, with its refusals in the document's order.
+-- The text of a loop nest (document 01, "The sheet"): what is written for a nest, and what a text
+-- is read as, with its refusals in the document's order.
 -- Assumes nothing.
 use mathlib.Core.Path.{_≡_}
 use mathlib.Core.Bool.{Bool, true, false, not, _&&_}
@@ -9,8 +10,10 @@ use lib.IntN.{ℤ, pos}
 use lib.ListN.{length, getD, take, drop, replicate}
 use Rattle.integers.specs.Lists.{any, first, tab}
 use Rattle.nest.specs.declared.LoopNest.{LoopNest}
-use Rattle.nest.specs.Nest.{Limit, depthOf, countOf, limitsOf, timeOf, dependencesOf, weightsOf, nestOf, emptyNest, maxDepth, maxDependences}
-use Rattle.nest.specs.Refusals.{firstMet, headerOrder, bodyOrder, refusal, orElse, shortBuffer, tableAfter, Order, nestOrder}
+use Rattle.nest.specs.Nest.{Limit, depthOf, countOf, limitsOf, timeOf, dependencesOf, weightsOf}
+use Rattle.nest.specs.Nest.{nestOf, emptyNest, maxDepth, maxDependences}
+use Rattle.nest.specs.Refusals.{firstMet, headerOrder, bodyOrder, refusal, Order, nestOrder}
+use Rattle.nest.specs.Refusals.{orElse, shortBuffer, tableAfter}
 use Rattle.nest_text.specs.declared.Reading.{Reading}
 use Rattle.nest_text.specs.declared.Writing.{Writing}
 use Rattle.nest_text.specs.declared.fields.Field.{Field}
@@ -39,7 +42,8 @@ limitWidth = 2
 unfoldable pub linesOf : LoopNest → List (List ℤ)
 linesOf s =
     (s .depth ∷ s .count ∷ s .cube ∷ [])
-    ∷ (map (λ l. l .lower ∷ l .upper ∷ []) (limitsOf s) ++ (timeOf s ∷ (dependencesOf s ++ ((s .boundary ∷ weightsOf s) ∷ []))))
+    ∷ (map (λ l. l .lower ∷ l .upper ∷ []) (limitsOf s)
+    ++ (timeOf s ∷ (dependencesOf s ++ ((s .boundary ∷ weightsOf s) ∷ []))))
 
 -- its lines, one after the other
 unfoldable pub textOf : LoopNest → Bytes
@@ -167,7 +171,8 @@ isShaped bs = fits (shapesOf (headerOf bs)) (restOf bs)
 unfoldable pub bodyNumbers : Bytes → List (List ℤ)
 bodyNumbers bs = lineNumbers (firstFitting (shapesOf (headerOf bs)) (restOf bs)) (restOf bs)
 
--- the nest of n loops with m dependences and cube dimension c whose lines behind line 1 hold these numbers
+-- the nest of n loops with m dependences and cube dimension c whose lines behind line 1 hold these
+-- numbers
 unfoldable pub nestFrom : ℕ → ℕ → ℤ → List (List ℤ) → LoopNest
 nestFrom n m c ls =
     let limits : List Limit = map (λ l. record { lower = at l 0; upper = at l 1 }) (take n ls) in
@@ -201,7 +206,8 @@ readNest bs = elim (eqb (readRefusal bs) 0) [ true ↦ bodyOf bs | false ↦ emp
 abbrev pub readMost : ℕ
 readMost = textLength maxDepth maxDependences + 1
 
--- ---- writing into a lent buffer: a call that is refused with a number, or not if it is 0, and has these bytes to write
+-- ---- writing into a lent buffer: a call that is refused with a number, or not if it is 0, and has
+-- these bytes to write
 
 -- that number, then 14 for a buffer with fewer bytes than there are to write
 unfoldable pub writeRefusal : ℕ → Bytes → ℕ → ℕ
@@ -225,10 +231,12 @@ written number bytes old = tableAfter (writeRefusal number bytes (length old)) b
 abbrev pub Reads : Bytes → Reading → Type 0
 Reads text r = r ≡ record { refusal = readRefusal text; nest = readNest text }
 
--- a call that writes bytes, unless it is refused with a number other than 0, answers r and leaves the buffer `new`, which it found as `old`
+-- a call that writes bytes, unless it is refused with a number other than 0, answers r and leaves
+-- the buffer `new`, which it found as `old`
 abbrev pub Puts : ℕ → Bytes → Bytes → Writing → Bytes → Type 0
 Puts number bytes old r new =
-    (r ≡ record { refusal = writeRefusal number bytes (length old); length = writtenLength number bytes (length old) }) × (new ≡ written number bytes old)
+    (r ≡ record { refusal = writeRefusal number bytes (length old); length = writtenLength number bytes (length old) })
+    × (new ≡ written number bytes old)
 
 -- a call of `write`
 abbrev pub Writes : LoopNest → Bytes → Writing → Bytes → Type 0

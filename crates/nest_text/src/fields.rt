@@ -1,4 +1,5 @@
-// A number in six columns, read and written: spaces, an optional minus, digits; no leading zero, no minus zero.
+// A number in six columns, read and written: spaces, an optional minus, digits; no leading zero and
+// no minus zero.
 use crate::COLUMNS;
 ghost use mathlib.Core.Path.{_≡_};
 ghost use mathlib.Core.Bool.{_&&_};

@@ -1,4 +1,4 @@
-// The text of a loop nest: read from bytes, and written into a lent buffer (document 01, "The sheet").
+// The text of a loop nest (document 01, "The sheet"): read from bytes, written into a lent buffer.
 mod fields;
 mod reader;
 mod writer;
@@ -13,7 +13,7 @@ ghost use Rattle.nest_text.specs.Text.{Reads, Writes};
 // smudged sheet: a line is missing, extra or not in columns
 pub const MALFORMED_TEXT: u8 = 1;
 
-// of each field
+// the columns of a field, one byte each
 pub const COLUMNS: usize = 6;
 
 // the byte that ends a line
@@ -41,7 +41,8 @@ fn refused(refusal: u8) -> Reading
     }
 }
 
-// A loop nest from its text: the number of the first refusal with a nest of zeros, or 0 with the nest, unused places 0.
+// A loop nest from its text: the number of the first refusal with a nest of zeros, or 0 with the
+// nest, unused places 0.
 pub fn read(text: &[u8]) -> Reading
     ensures { λ r. ⌜ Reads (now (text .entry)) r ⌝ }
 {
@@ -74,7 +75,8 @@ pub struct Writing {
     pub length: usize,
 }
 
-// The text of an accepted nest into a lent buffer; answers its length, or the number of the first refusal, 2 to 14, with length 0 and no byte changed.
+// The text of an accepted nest into a lent buffer; answers its length, or the number of the first
+// refusal, 2 to 14, with length 0 and no byte changed.
 pub fn write(s: LoopNest, out: &mut [u8]) -> Writing
     ensures { λ r. ⌜ Writes s (now (out .entry)) r (now (out .exit)) ⌝ }
 {

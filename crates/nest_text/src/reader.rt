@@ -1,6 +1,7 @@
 // The lines of a loop nest's text, read into a nest.
 use crate::COLUMNS;
 use crate::HEADER_FIELDS;
+use crate::LIMIT_FIELDS;
 use crate::MALFORMED_TEXT;
 use crate::NEWLINE;
 use crate::Reading;
@@ -9,16 +10,18 @@ use crate::fields::Field;
 use crate::refused;
 use nest::LoopNest;
 ghost use mathlib.Core.Path.{_≡_};
+ghost use mathlib.Core.Bool.{false};
+ghost use mathlib.Core.List.{[]};
 ghost use Prim.Native.Nat.{_+_, _<_, _≤_};
 ghost use lib.IntN.{pos};
 ghost use lib.ListN.{length, take, getD, replicate};
-ghost use mathlib.Core.List.{[]};
-ghost use mathlib.Core.Bool.{false};
 ghost use Rattle.nest.specs.Nest.{emptyNest, maxDepth, maxDependences};
 ghost use Rattle.nest_text.specs.Text.{widths};
-ghost use Rattle.nest_text.specs.Reader.{maxFields, lineOf, headerRead, withTimeLine, withDependenceLine, withLastLine, withLine, filled, bodyRead};
+ghost use Rattle.nest_text.specs.Reader.{maxFields, lineOf, headerRead, bodyRead};
+ghost use Rattle.nest_text.specs.Reader.{withTimeLine, withDependenceLine, withLastLine, withLine, filled};
 
-// A line of numbers: whether it is in form, and then its numbers, with 0 in every place that has no field.
+// A line of numbers: whether it is in form, and then its numbers, with 0 in every place that has no
+// field.
 pub struct Line {
     pub ok: bool,
     pub numbers: [i64; Line::MAX_FIELDS],
@@ -81,7 +84,8 @@ pub fn read_line(text: &[u8], k: usize) -> Line
     }
 }
 
-// Line 1: the number of its first refusal, 1 to 4, with a nest of zeros, or 0 with its numbers in a nest that is else of zeros.
+// Line 1: the number of its first refusal, 1 to 4, with a nest of zeros, or 0 with its numbers in a
+// nest that is else of zeros.
 pub fn read_header(text: &[u8]) -> Reading
     ensures { λ r. ⌜ r ≡ headerRead (now (text .entry)) ⌝ }
 {
@@ -148,7 +152,8 @@ pub fn with_last_line(s: LoopNest, row: [i64; Line::MAX_FIELDS]) -> LoopNest
     t
 }
 
-// The nest of n loops and m dependences with the numbers of line i, counted from 0, of those behind line 1.
+// The nest of n loops and m dependences with the numbers of line i, counted from 0, of those behind
+// line 1.
 pub fn with_line(
     s: LoopNest,
     n: usize,
@@ -177,7 +182,7 @@ pub fn width(n: usize, m: usize, i: usize) -> usize
     ensures { λ r. ⌜ (r ≡ getD (widths n m) i 0) × (r ≤ maxFields) ⌝ }
 {
     if i < n {
-        2
+        LIMIT_FIELDS
     } else if i <= n + m {
         n
     } else {
@@ -185,7 +190,8 @@ pub fn width(n: usize, m: usize, i: usize) -> usize
     }
 }
 
-// The lines behind line 1 of a nest of n loops and m dependences, put into the nest that line 1 says.
+// The lines behind line 1 of a nest of n loops and m dependences, put into the nest that line 1
+// says.
 pub fn read_body(text: &[u8], header: LoopNest, n: usize, m: usize) -> Body
     requires { ⌜ (n ≤ maxDepth) × (m ≤ maxDependences) × (header ≡ filled n m (header .cube) []) ⌝ }
     ensures { λ r. ⌜ r ≡ bodyRead n m (header .cube) (now (text .entry)) ⌝ }

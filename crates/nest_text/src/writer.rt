@@ -104,7 +104,7 @@ pub fn put_last(
     put_line(out, at + COLUMNS, &weights, 0, m)
 }
 
-// How many bytes the text of an accepted nest of depth n with m dependences has.
+// How many bytes the text of an accepted nest of n loops with m dependences has.
 pub fn text_length(n: usize, m: usize) -> usize
     requires { ⌜ (n ≤ maxDepth) × (m ≤ maxDependences) ⌝ }
     ensures { λ r. ⌜ r ≡ textLength n m ⌝ }
@@ -116,7 +116,8 @@ pub fn text_length(n: usize, m: usize) -> usize
     first + limits + vectors + last
 }
 
-// Writes the text of an accepted nest of depth n with m dependences from the buffer's first byte on.
+// Writes the text of an accepted nest of n loops with m dependences from the buffer's first byte
+// on.
 pub fn put_text(s: LoopNest, n: usize, m: usize, out: &mut [u8])
     requires { ⌜ (refusal s ≡ 0)
         × ((n ≡ depthOf s) × ((m ≡ countOf s) × (length (textOf s) ≤ length (now out)))) ⌝ }

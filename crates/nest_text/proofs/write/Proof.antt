@@ -1,4 +1,5 @@
--- `write` answers as the definitions say, and leaves the text, or a refused call's buffer as it was.
+-- `write` answers as the definitions say, and leaves the text, or a refused call's buffer as it
+-- was.
 use borrow.Author.Needs.{needs}
 use mathlib.Core.Path.{_≡_, sym, ap, ap₂, _∙_}
 use Prim.Native.Nat.{_+_, _*_}

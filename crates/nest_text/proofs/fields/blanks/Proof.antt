@@ -1,7 +1,8 @@
-use borrow.Author.Needs.{needs}
+-- `blanks` counts the spaces that come first. The invariant: the first `at` bytes are spaces.
 use mathlib.Core.Path.{_≡_}
 use Prim.Native.Nat.{_≤_, _-_, _+_}
 use native.Mathlib.Omega.{arith}
+use borrow.Author.Needs.{needs}
 use lib.ListN.{length, drop}
 use Rattle.nest_text.specs.Fields.{blanksOf}
 use Rattle.nest_text.proofs.FieldLaws.{blanks-stop, blanks-more, blanks-end}
@@ -21,7 +22,9 @@ shared-slice-read-if1 : tie.Need-shared-slice-read-if1 Inv-loop μ-loop
 shared-slice-read-if1 c = search needs
 
 returns : tie.Need-returns Inv-loop μ-loop
-returns c = omega (arith, blanks-stop (c .before .before .before .before .args .f .now) (c .before .before .before .loop .at) (c .before .before .loop-test .taken) (c .if1 .taken))
+returns c =
+    let i = c .before .before in
+    omega (arith, blanks-stop (i .before .before .args .f .now) (i .before .loop .at) (i .loop-test .taken) (c .if1 .taken))
 
 add-at : tie.Need-add-at Inv-loop μ-loop
 add-at c = search needs
@@ -30,12 +33,16 @@ loop-less : tie.Need-loop-less Inv-loop μ-loop
 loop-less c = search needs
 
 loop-again : tie.Need-loop-again Inv-loop μ-loop
-loop-again c = omega (arith, blanks-more (c .before .before .before .before .args .f .now) (c .before .before .before .loop .at) (c .before .before .loop-test .taken) (c .if1 .left))
+loop-again c =
+    let i = c .before .before in
+    omega (arith, blanks-more (i .before .before .args .f .now) (i .before .loop .at) (i .loop-test .taken) (c .if1 .left))
 
 returns-2 : tie.Need-returns-2 Inv-loop μ-loop
 returns-2 c =
-    let e : c .before .loop .at ≡ length (c .before .before .args .f .now) = omega arith in
-    let z : blanksOf (drop (c .before .loop .at) (c .before .before .args .f .now)) ≡ 0 = rw e (blanks-end (c .before .before .args .f .now)) in
+    let l = c .before .loop in
+    let f = c .before .before .args .f .now in
+    let e : l .at ≡ length f = omega arith in
+    let z : blanksOf (drop (l .at) f) ≡ 0 = rw e (blanks-end f) in
     omega arith
 
 pub blanks-spec : {M : Type 1} → statement M

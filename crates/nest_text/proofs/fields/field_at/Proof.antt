@@ -1,7 +1,8 @@
-use borrow.Author.Needs.{needs}
+-- `field_at` hands the six columns of a field to the reader of numbers.
 use mathlib.Core.Path.{_≡_}
 use Prim.Native.Nat.{_+_, _-_}
 use native.Mathlib.Omega.{arith}
+use borrow.Author.Needs.{needs}
 use Rattle.nest_text.specs.Fields.{columns}
 use Rattle.nest_text.proofs.fields.field_at.Statement.{statement}
 use Rattle.nest_text.proofs.fields.field_at.Tie as tie

@@ -1,3 +1,4 @@
+-- `magnitude` turns a negative number by its sign; in six columns there is room for both.
 use mathlib.Core.Path.{_≡_, refl}
 use Prim.Native.Nat.{_<_}
 use native.Mathlib.Omega.{arith}

@@ -1,10 +1,11 @@
+-- `put_spaces` fills a buffer with spaces. The invariant: the first k bytes are spaces.
 use mathlib.Core.Path.{_≡_, refl, ap, _∙_}
 use mathlib.Core.List.{List, _++_, append-nil}
 use Prim.Native.Nat.{ℕ, _-_, _≤_}
 use native.Mathlib.Omega.{arith}
+use borrow.Author.Fill.{fill-more}
 use lib.ListN.{length, set, drop, replicate, length-set}
 use lib.Seq.{drop-length}
-use borrow.Author.Fill.{fill-more}
 use Rattle.nest_text.specs.Fields.{space}
 use Rattle.nest_text.proofs.fields.put_spaces.Statement.{statement}
 use Rattle.nest_text.proofs.fields.put_spaces.Tie as tie

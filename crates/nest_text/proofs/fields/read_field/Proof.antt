@@ -1,6 +1,7 @@
-use borrow.Author.Needs.{needs}
+-- `read_field` reads what stands behind the spaces.
 use mathlib.Core.Path.{ap, _∙_}
 use Prim.Native.Nat.{ℕ}
+use borrow.Author.Needs.{needs}
 use lib.ListN.{drop}
 use Rattle.nest_text.specs.Fields.{signedOf, readOf}
 use Rattle.nest_text.proofs.FieldLaws.{rest-part}

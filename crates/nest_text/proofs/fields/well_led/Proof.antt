@@ -1,5 +1,6 @@
-use borrow.Author.Needs.{needs}
+-- `well_led` tests for a first digit that is no leading zero.
 use native.Mathlib.Omega.{arith}
+use borrow.Author.Needs.{needs}
 use borrow.Author.Tests.{le-ltb, lt-ltb, eq-eqb, ne-eqb}
 use lib.ListN.{length, getD}
 use denote.Ref.{now}

@@ -1,10 +1,11 @@
-use borrow.Author.Needs.{needs}
+-- `write_at` lends the six columns of a field to the writer of numbers.
 use mathlib.Core.Path.{_≡_, ap, _∙_}
-use mathlib.Core.List.{List, _++_}
-use Prim.Native.Nat.{ℕ, _+_}
+use mathlib.Core.List.{_++_}
+use Prim.Native.Nat.{_+_}
+use borrow.Author.Needs.{needs}
 use lib.ListN.{take, drop}
 use mir.Facts.{toZ-ofZ}
-use Rattle.nest_text.specs.Fields.{columns, fieldOf}
+use Rattle.nest_text.specs.Fields.{Bytes, columns, fieldOf}
 use Rattle.nest_text.proofs.FieldLaws.{put-part}
 use Rattle.nest_text.proofs.fields.write_at.Statement.{statement}
 use Rattle.nest_text.proofs.fields.write_at.Tie as tie
@@ -29,9 +30,12 @@ same-length c = search needs
 
 returns : tie.Need-returns
 returns c =
-    let a = c .before .before .before .before .before .args in
-    let e : c .before .before .write-field .last .0 ≡ fieldOf (a .z) = c .before .before .write-field .ensures ∙ ap fieldOf (toZ-ofZ (c .before .before .before .before .before .fits .z)) in
-    put-part (a .line .now) (c .before .before .write-field .last .0) (a .from) ∙ ap (λ (d : List ℕ). take (a .from) (a .line .now) ++ (d ++ drop (a .from + columns) (a .line .now))) e
+    let d = c .before .before in
+    let s = d .before .before .before in
+    let a = s .args in
+    let e : d .write-field .last .0 ≡ fieldOf (a .z) = d .write-field .ensures ∙ ap fieldOf (toZ-ofZ (s .fits .z)) in
+    put-part (a .line .now) (d .write-field .last .0) (a .from)
+    ∙ ap (λ (f : Bytes). take (a .from) (a .line .now) ++ (f ++ drop (a .from + columns) (a .line .now))) e
 
 pub write-at-spec : {M : Type 1} → statement M
 write-at-spec =

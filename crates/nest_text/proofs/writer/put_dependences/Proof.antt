@@ -1,4 +1,5 @@
--- `put_dependences` stores a line for each dependence. The invariant: those of the first i stand in the buffer.
+-- `put_dependences` stores a line for each dependence. The invariant: those of the first i stand in
+-- the buffer.
 use borrow.Author.Needs.{needs}
 use mathlib.Core.Path.{_≡_, refl, ap, subst, _∙_}
 use mathlib.Core.List.{flatMap}

@@ -1,4 +1,5 @@
--- `put_fields` stores the fields of k numbers one behind the other. The invariant: those of the first i stand in the buffer.
+-- `put_fields` stores the fields of k numbers one behind the other. The invariant: those of the
+-- first i stand in the buffer.
 use mathlib.Core.Path.{_≡_, refl, sym, ap, subst, _∙_}
 use mathlib.Core.List.{_++_, flatMap}
 use Prim.Native.Nat.{ℕ, _+_, _*_, _-_, _≤_}

@@ -1,4 +1,5 @@
--- `put_limits` stores a line for each loop. The invariant: those of the first k loops stand in the buffer.
+-- `put_limits` stores a line for each loop. The invariant: those of the first k loops stand in the
+-- buffer.
 use borrow.Author.Needs.{needs}
 use mathlib.Core.Path.{_≡_, refl, subst}
 use mathlib.Core.List.{List, [], _∷_, flatMap}

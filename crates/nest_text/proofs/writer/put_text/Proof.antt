@@ -1,4 +1,5 @@
--- `put_text` writes the text of an accepted nest: after each call the lines so far stand in the buffer.
+-- `put_text` writes the text of an accepted nest: after each call the lines so far stand in the
+-- buffer.
 use borrow.Author.Needs.{needs}
 use mathlib.Core.Path.{_≡_, sym, ap, ap₂, subst, _∙_}
 use mathlib.Core.List.{List, [], _∷_, _++_, flatMap}
