@@ -10,7 +10,6 @@ use lib.IntN.{ℤ}
 use lib.ListN.{length}
 use Rattle.integers.specs.Lists.{split, clash}
 use Rattle.nest.specs.declared.LoopNest.{LoopNest}
-use Rattle.nest.specs.Nest.{toℕ, depthOf, countOf}
 use Rattle.nest.specs.Refusals.{Refusal, number, firstMet, headerOrder, bodyOrder, refusal, Condition, Order, Answered, orderNumbers, FromOne, numbered}
 use Rattle.nest.proofs.Answers.{answered-append, one-append, numbered-answered, numbered-one, call-one, buffer-answered}
 use Rattle.nest_text.specs.Fields.{Bytes}

@@ -13,6 +13,7 @@ pub mod Columns
 pub mod TextLength
 pub mod LineLaws
 pub mod ShapeLaws
+pub mod StoreLaws
 pub mod RowLaws
 pub mod FillLaws
 pub mod BodyLaws

@@ -3,18 +3,14 @@
 -- Assumes nothing.
 use mathlib.Core.Path.{_≡_, refl, sym, ap, ap₂, subst, _∙_}
 use mathlib.Core.Bool.{Bool, true, false}
-use mathlib.Core.Logic.{_↔_}
-use mathlib.Core.List.{List, [], _∷_, map, List·Memᴰ, List·Memᴰ·head, List·Memᴰ·tail}
+use mathlib.Core.List.{List, [], _∷_, List·Memᴰ, List·Memᴰ·head, List·Memᴰ·tail}
 use Prim.Native.Nat.{ℕ, _≤_}
 use native.Mathlib.Omega.{arith}
-use lib.IntN.{ℤ}
-use lib.ListN.{length, getD}
-use Rattle.integers.specs.Lists.{any, first, place, T-true, any-at, any-one, split}
+use lib.ListN.{getD}
+use Rattle.integers.specs.Lists.{any, first, T-true, any-at, any-one, split}
 use Rattle.integers.proofs.ListFacts.{mem-getD, first-passes, first-mem, first-at, first-empty}
-use Rattle.nest.specs.declared.LoopNest.{LoopNest}
-use Rattle.nest.specs.Nest.{depthOf, countOf}
 use Rattle.nest_text.specs.Fields.{Bytes}
-use Rattle.nest_text.specs.Text.{isLine, numbersOf, behind, areLines, headerWidth, headerWidths, Shape, widths, shapes, shapesOf, fits, firstFitting, isHeaded, headerWidthOf, headerNumbers, restOf}
+use Rattle.nest_text.specs.Text.{isLine, numbersOf, behind, areLines, headerWidth, headerWidths, Shape, widths, shapes, fits, firstFitting, isHeaded, headerWidthOf, headerNumbers, restOf}
 
 -- ---- the first of a list that passes a test
 

@@ -14,7 +14,7 @@ ghost use mathlib.Core.Bool.{false};
 ghost use mathlib.Core.List.{[]};
 ghost use Prim.Native.Nat.{_+_, _<_, _≤_};
 ghost use lib.IntN.{pos};
-ghost use lib.ListN.{length, take, getD, replicate};
+ghost use lib.ListN.{getD, replicate};
 ghost use Rattle.nest.specs.Nest.{emptyNest, maxDepth, maxDependences};
 ghost use Rattle.nest_text.specs.Text.{widths};
 ghost use Rattle.nest_text.specs.Reader.{maxFields, lineOf, headerRead, bodyRead};
@@ -105,24 +105,14 @@ pub fn read_header(text: &[u8]) -> Reading
     }
 }
 
-// Fills a part of an array with a row's first numbers.
-pub fn copy(out: &mut [i64], row: &[i64])
-    requires { ⌜ length (now out) ≤ length (now row) ⌝ }
-    ensures { λ _. ⌜ now (out .exit) ≡ take (length (now (out .entry))) (now (row .entry)) ⌝ }
-{
-    for k in 0..out.len() {
-        out[k] = row[k];
-    }
-}
-
 // The nest with its time vector.
 pub fn with_time_line(s: LoopNest, row: [i64; Line::MAX_FIELDS]) -> LoopNest
     ensures { λ r. ⌜ r ≡ withTimeLine s row ⌝ }
 {
-    let mut time = s.time;
-    copy(&mut time, &row);
     let mut t = s;
-    t.time = time;
+    for k in 0..LoopNest::MAX_DEPTH {
+        t = t.with_time(k, row[k]);
+    }
     t
 }
 
@@ -131,12 +121,10 @@ pub fn with_dependence_line(s: LoopNest, i: usize, row: [i64; Line::MAX_FIELDS])
     requires { ⌜ i < maxDependences ⌝ }
     ensures { λ r. ⌜ r ≡ withDependenceLine s i row ⌝ }
 {
-    let mut dependences = s.dependences;
-    let from = i * LoopNest::MAX_DEPTH;
-    let to = from + LoopNest::MAX_DEPTH;
-    copy(&mut dependences[from..to], &row);
     let mut t = s;
-    t.dependences = dependences;
+    for k in 0..LoopNest::MAX_DEPTH {
+        t = t.with_dependence(i, k, row[k]);
+    }
     t
 }
 
@@ -144,11 +132,10 @@ pub fn with_dependence_line(s: LoopNest, i: usize, row: [i64; Line::MAX_FIELDS])
 pub fn with_last_line(s: LoopNest, row: [i64; Line::MAX_FIELDS]) -> LoopNest
     ensures { λ r. ⌜ r ≡ withLastLine s row ⌝ }
 {
-    let mut weights = s.weights;
-    copy(&mut weights, &row[1..]);
-    let mut t = s;
-    t.boundary = row[0];
-    t.weights = weights;
+    let mut t = s.with_boundary(row[0]);
+    for i in 0..LoopNest::MAX_DEPENDENCES {
+        t = t.with_weight(i, row[i + 1]);
+    }
     t
 }
 

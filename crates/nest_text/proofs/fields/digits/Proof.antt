@@ -1,4 +1,5 @@
--- `digits` reads a run of digits. The invariant: of the first k bytes each is a digit, and they say `value`.
+-- `digits` reads a run of digits. The invariant: of the first k bytes each is a digit, and they say
+-- `value`.
 use mathlib.Core.Path.{_≡_, refl, sym, _∙_}
 use mathlib.Core.Bool.{true, false, _&&_}
 use Prim.Native.Nat.{_≤_, _<_, _-_, _^_}

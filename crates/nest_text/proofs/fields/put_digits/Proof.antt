@@ -1,5 +1,5 @@
--- `put_digits` writes the digits of a number at the end of a field. The invariant: those behind column `at`
--- are written, and `rest` is what the others say.
+-- `put_digits` writes the digits of a number at the end of a field. The invariant: those behind
+-- column `at` are written, and `rest` is what the others say.
 use mathlib.Core.Path.{_≡_, refl, sym, ap, subst, _∙_}
 use mathlib.Core.List.{[], _∷_}
 use Prim.Native.Nat.{ℕ, _-_, _+_, _/_, _%_, _≤_, _<_, _^_}
