@@ -17,8 +17,8 @@ use lib.Seq.{take-at, drop-at, getD-at, drop-append-add, drop-cons, take-add, le
 use Rattle.integers.specs.Lists.{any, tab, clash, split, and-true, length-tab, any-tab-each, any-tab-none, tab-list, flatMap-append, flatMap-one}
 use Rattle.nest_text.specs.declared.fields.Field.{Field}
 use Rattle.nest_text.specs.declared.fields.Field.the-variants.{Number, Malformed}
-use Rattle.nest_text.specs.Fields.{Bytes, newline, fieldOf, readOf}
-use Rattle.nest_text.specs.Text.{line, isMalformed, numberOf, fieldAt, isLine, numbersOf, behind, areLines, lineNumbers, Shape, fits, firstFitting}
+use Rattle.nest_text.specs.Fields.{columns, Bytes, newline, fieldOf, readOf}
+use Rattle.nest_text.specs.Text.{lineLength, line, isMalformed, numberOf, fieldAt, isLine, numbersOf, behind, areLines, lineNumbers, Shape, fits, firstFitting}
 use Rattle.nest_text.specs.Stored.{InColumns}
 use Rattle.nest_text.specs.Form.{Begins, Consists, Shaped}
 use Rattle.nest_text.proofs.FieldBack.{read-written}
@@ -53,22 +53,22 @@ unfolding flatMap
 fields-cons z zs rest = append-assoc (fieldOf z) (flatMap fieldOf zs) rest
 
 -- six bytes for each number
-pub all-length : (zs : List ℤ) → AllInColumns zs → length (flatMap fieldOf zs) ≡ 6 * length zs
+pub all-length : (zs : List ℤ) → AllInColumns zs → length (flatMap fieldOf zs) ≡ columns * length zs
 all-length [] h = unfold flatMap in omega arith
 all-length (z ∷ zs) h = step (all-length zs (h .1))
   where
-    step : length (flatMap fieldOf zs) ≡ 6 * length zs → length (flatMap fieldOf (z ∷ zs)) ≡ 6 * suc (length zs)
+    step : length (flatMap fieldOf zs) ≡ columns * length zs → length (flatMap fieldOf (z ∷ zs)) ≡ columns * suc (length zs)
     step ih = unfold flatMap in length-append (fieldOf z) (flatMap fieldOf zs) ∙ omega (arith, field-length z (h .0), ih)
 
 -- field i is read as number i
 field-written : (zs : List ℤ) (rest : Bytes) (i : ℕ) → AllInColumns zs → i < length zs → fieldAt (flatMap fieldOf zs ++ rest) i ≡ Number (getD zs i (pos 0))
 field-written [] rest i h l = absurd (not-suc-le-zero l)
 field-written (z ∷ zs) rest zero h l =
-    ap (λ b. readOf (take 6 b)) (fields-cons z zs rest) ∙ ap readOf (take-at (fieldOf z) (flatMap fieldOf zs ++ rest) 6 (field-length z (h .0))) ∙ read-written z (h .0)
+    ap (λ b. readOf (take columns b)) (fields-cons z zs rest) ∙ ap readOf (take-at (fieldOf z) (flatMap fieldOf zs ++ rest) columns (field-length z (h .0))) ∙ read-written z (h .0)
 field-written (z ∷ zs) rest (suc i) h l =
     let six = field-length z (h .0) in
-    let e : 6 * suc i ≡ length (fieldOf z) + 6 * i = omega arith in
-    ap₂ (λ k b. readOf (take 6 (drop k b))) e (fields-cons z zs rest) ∙ ap (λ b. readOf (take 6 b)) (drop-append-add (fieldOf z) (flatMap fieldOf zs ++ rest) (6 * i))
+    let e : columns * suc i ≡ length (fieldOf z) + columns * i = omega arith in
+    ap₂ (λ k b. readOf (take columns (drop k b))) e (fields-cons z zs rest) ∙ ap (λ b. readOf (take columns b)) (drop-append-add (fieldOf z) (flatMap fieldOf zs ++ rest) (columns * i))
     ∙ field-written zs rest i (h .1) (le-of-suc-le-suc l)
 
 -- what a written line is read as
@@ -89,9 +89,9 @@ line-read zs rest h =
       in-form =
           ap₂ (λ a b. not a && b)
           (any-tab-none isMalformed (fieldAt ((fields ++ (newline ∷ [])) ++ rest)) (length zs) (λ i l. ap isMalformed (read i l)))
-          (eq-eqb (getD ((fields ++ (newline ∷ [])) ++ rest) (6 * length zs) 0) newline (ap (λ b. getD b (6 * length zs) 0) front ∙ getD-at fields newline rest 0 (6 * length zs) long));
+          (eq-eqb (getD ((fields ++ (newline ∷ [])) ++ rest) (columns * length zs) 0) newline (ap (λ b. getD b (columns * length zs) 0) front ∙ getD-at fields newline rest 0 (columns * length zs) long));
       numbers = tab-list (λ i. numberOf (fieldAt ((fields ++ (newline ∷ [])) ++ rest) i)) zs (pos 0) (length zs) refl (λ i l. ap numberOf (read i l));
-      rest-is = drop-at (fields ++ (newline ∷ [])) rest (6 * length zs + 1) (length-append fields (newline ∷ []) ∙ ap (λ n. n + 1) long);
+      rest-is = drop-at (fields ++ (newline ∷ [])) rest (columns * length zs + 1) (length-append fields (newline ∷ []) ∙ ap (λ n. n + 1) long);
     }
 
 -- lines that were written
@@ -112,28 +112,28 @@ known (Number z) e = refl
 known Malformed e = clash refl e
 
 -- a field that was read has its number in columns
-field-again : (bs : Bytes) (i : ℕ) → 6 * i + 6 ≤ length bs → isMalformed (fieldAt bs i) ≡ false
-    → InColumns (numberOf (fieldAt bs i)) × (take 6 (drop (6 * i) bs) ≡ fieldOf (numberOf (fieldAt bs i)))
+field-again : (bs : Bytes) (i : ℕ) → columns * i + columns ≤ length bs → isMalformed (fieldAt bs i) ≡ false
+    → InColumns (numberOf (fieldAt bs i)) × (take columns (drop (columns * i) bs) ≡ fieldOf (numberOf (fieldAt bs i)))
 field-again bs i h e =
-    let room : 6 ≤ length (drop (6 * i) bs) = subst (λ n. 6 ≤ n) (sym (length-drop (6 * i) bs)) (omega arith) in
-    field-iff (take 6 (drop (6 * i) bs)) (numberOf (fieldAt bs i)) (length-take-le 6 (drop (6 * i) bs) room) .0 (known (fieldAt bs i) e)
+    let room : columns ≤ length (drop (columns * i) bs) = subst (λ n. columns ≤ n) (sym (length-drop (columns * i) bs)) (omega arith) in
+    field-iff (take columns (drop (columns * i) bs)) (numberOf (fieldAt bs i)) (length-take-le columns (drop (columns * i) bs) room) .0 (known (fieldAt bs i) e)
 
 -- k fields that were read
-fields-again : (bs : Bytes) (k : ℕ) → 6 * k ≤ length bs → ((i : ℕ) → i < k → isMalformed (fieldAt bs i) ≡ false) → flatMap fieldOf (tab (λ i. numberOf (fieldAt bs i)) k) ≡ take (6 * k) bs
+fields-again : (bs : Bytes) (k : ℕ) → columns * k ≤ length bs → ((i : ℕ) → i < k → isMalformed (fieldAt bs i) ≡ false) → flatMap fieldOf (tab (λ i. numberOf (fieldAt bs i)) k) ≡ take (columns * k) bs
 fields-again bs zero h e = unfold tab flatMap in refl
 fields-again bs (suc k) h e = step (fields-again bs k (omega arith) (λ i l. e i (omega arith)))
   where
     front : List ℤ
     front = tab (λ i. numberOf (fieldAt bs i)) k
 
-    six : 6 * k + 6 ≡ 6 * suc k
+    six : columns * k + columns ≡ columns * suc k
     six = omega arith
 
-    step : flatMap fieldOf front ≡ take (6 * k) bs → flatMap fieldOf (tab (λ i. numberOf (fieldAt bs i)) (suc k)) ≡ take (6 * suc k) bs
+    step : flatMap fieldOf front ≡ take (columns * k) bs → flatMap fieldOf (tab (λ i. numberOf (fieldAt bs i)) (suc k)) ≡ take (columns * suc k) bs
     step ih = unfold tab in
         flatMap-append fieldOf front (numberOf (fieldAt bs k) ∷ [])
         ∙ ap₂ (λ (a b : Bytes). a ++ b) ih (flatMap-one fieldOf (numberOf (fieldAt bs k)) ∙ sym (field-again bs k (omega arith) (e k (omega arith)) .1))
-        ∙ sym (take-add (6 * k) 6 bs) ∙ ap (λ n. take n bs) six
+        ∙ sym (take-add (columns * k) columns bs) ∙ ap (λ n. take n bs) six
 
 -- where a byte that is not 0 is read, there is a place for it
 reaches : (bs : Bytes) (n b : ℕ) → 0 < b → getD bs n 0 ≡ b → n < length bs
@@ -143,15 +143,15 @@ reaches bs n b h e = split (ltb n (length bs)) (λ t. ltb-true n (length bs) t) 
 pub line-again : (k : ℕ) (bs : Bytes) → isLine k bs ≡ true → AllInColumns (numbersOf k bs) × (bs ≡ line (numbersOf k bs) ++ behind k bs)
 unfolding line isLine numbersOf
 line-again k bs h =
-    let a = and-true (not (any isMalformed (tab (fieldAt bs) k))) (eqb (getD bs (6 * k) 0) newline) h in
+    let a = and-true (not (any isMalformed (tab (fieldAt bs) k))) (eqb (getD bs (columns * k) 0) newline) h in
     let each : (i : ℕ) → i < k → isMalformed (fieldAt bs i) ≡ false = λ i l. any-tab-each isMalformed (fieldAt bs) k i (not-true (any isMalformed (tab (fieldAt bs) k)) (a .0)) l in
-    let ten : getD bs (6 * k) 0 ≡ newline = eqb-true (getD bs (6 * k) 0) newline (a .1) in
-    let room : 6 * k < length bs = reaches bs (6 * k) newline (omega arith) ten in
+    let ten : getD bs (columns * k) 0 ≡ newline = eqb-true (getD bs (columns * k) 0) newline (a .1) in
+    let room : columns * k < length bs = reaches bs (columns * k) newline (omega arith) ten in
     let f = fields-again bs k (omega arith) each in
-    let e : drop (6 * k + 1) bs ≡ drop (suc (6 * k)) bs = ap (λ n. drop n bs) (add-one (6 * k)) in (
+    let e : drop (lineLength k) bs ≡ drop (suc (columns * k)) bs = ap (λ n. drop n bs) (add-one (columns * k)) in (
       all-tab (λ i. numberOf (fieldAt bs i)) k (λ i l. field-again bs i (omega arith) (each i l) .0),
-      sym (ap₂ (λ (x y : Bytes). (x ++ (newline ∷ [])) ++ y) f e ∙ append-assoc (take (6 * k) bs) (newline ∷ []) (drop (suc (6 * k)) bs)
-          ∙ ap (λ (b : ℕ). take (6 * k) bs ++ (b ∷ drop (suc (6 * k)) bs)) (sym ten) ∙ ap (λ l. take (6 * k) bs ++ l) (sym (drop-cons bs (6 * k) 0 room)) ∙ take-append-drop (6 * k) bs),
+      sym (ap₂ (λ (x y : Bytes). (x ++ (newline ∷ [])) ++ y) f e ∙ append-assoc (take (columns * k) bs) (newline ∷ []) (drop (suc (columns * k)) bs)
+          ∙ ap (λ (b : ℕ). take (columns * k) bs ++ (b ∷ drop (suc (columns * k)) bs)) (sym ten) ∙ ap (λ l. take (columns * k) bs ++ l) (sym (drop-cons bs (columns * k) 0 room)) ∙ take-append-drop (columns * k) bs),
     )
 
 -- a line of k fields has k numbers

@@ -15,8 +15,8 @@ use Rattle.integers.specs.Lists.{any, tab-same, split}
 use Rattle.nest.specs.declared.LoopNest.{LoopNest}
 use Rattle.nest.specs.Nest.{depthOf, countOf, emptyNest, maxDepth, maxDependences}
 use Rattle.nest.specs.Refusals.{firstMet, headerOrder, bodyOrder, refusal, orElse}
-use Rattle.nest_text.specs.Fields.{Bytes, newline, readOf}
-use Rattle.nest_text.specs.Text.{lineLength, headerWidth, textOf, isMalformed, numberOf, fieldAt, isLine, numbersOf, behind, areLines, lineNumbers}
+use Rattle.nest_text.specs.Fields.{columns, Bytes, newline, readOf}
+use Rattle.nest_text.specs.Text.{lineLength, headerWidth, limitWidth, textLength, textOf, isMalformed, numberOf, fieldAt, isLine, numbersOf, behind, areLines, lineNumbers}
 use Rattle.nest_text.specs.Text.{headerWidths, Shape, widths, shapes, shapesOf, fits, firstFitting, isHeaded, headerWidthOf, headerNumbers, headed, headerOf}
 use Rattle.nest_text.specs.Text.{restOf, isShaped, bodyNumbers, nestFrom, bodyOf, malformedUnless, readRefusal, readNest, readMost}
 use Rattle.nest.proofs.Spans.{spans, HeaderSpans, header-spans}
@@ -25,7 +25,7 @@ use Rattle.nest_text.proofs.TextLength.{text-most}
 use Rattle.nest.proofs.Entries.{orElse-zero}
 
 -- the longest text of an accepted nest
-pub text-longest : (s : LoopNest) → refusal s ≡ 0 → length (textOf s) ≤ 284
+pub text-longest : (s : LoopNest) → refusal s ≡ 0 → length (textOf s) ≤ textLength maxDepth maxDependences
 text-longest s e = text-most s (spans s e)
 
 -- ---- parts of the first N bytes
@@ -42,24 +42,24 @@ part-take : (a b N : ℕ) (l : Bytes) → b + a ≤ N → take a (drop b (take N
 part-take a b N l h = ap (take a) (drop-take b N l) ∙ take-take a (N - b) (drop b l) (omega arith)
 
 -- a field there
-field-take : (N i : ℕ) (bs : Bytes) → 6 * i + 6 ≤ N → fieldAt (take N bs) i ≡ fieldAt bs i
-field-take N i bs h = ap readOf (part-take 6 (6 * i) N bs h)
+field-take : (N i : ℕ) (bs : Bytes) → columns * i + columns ≤ N → fieldAt (take N bs) i ≡ fieldAt bs i
+field-take N i bs h = ap readOf (part-take columns (columns * i) N bs h)
 
 -- the form of a line there
-line-take : (N k : ℕ) (bs : Bytes) → 6 * k + 1 ≤ N → isLine k (take N bs) ≡ isLine k bs
+line-take : (N k : ℕ) (bs : Bytes) → lineLength k ≤ N → isLine k (take N bs) ≡ isLine k bs
 unfolding isLine
 line-take N k bs h =
-    ap₂ (λ (fs : List _) (b : ℕ). not (any isMalformed fs) && eqb b newline) (tab-same (fieldAt (take N bs)) (fieldAt bs) k (λ i l. field-take N i bs (omega arith))) (getD-take N bs (6 * k) 0 (omega arith))
+    ap₂ (λ (fs : List _) (b : ℕ). not (any isMalformed fs) && eqb b newline) (tab-same (fieldAt (take N bs)) (fieldAt bs) k (λ i l. field-take N i bs (omega arith))) (getD-take N bs (columns * k) 0 (omega arith))
 
 -- the numbers of a line there
-numbers-take : (N k : ℕ) (bs : Bytes) → 6 * k ≤ N → numbersOf k (take N bs) ≡ numbersOf k bs
+numbers-take : (N k : ℕ) (bs : Bytes) → columns * k ≤ N → numbersOf k (take N bs) ≡ numbersOf k bs
 unfolding numbersOf
 numbers-take N k bs h = tab-same (λ i. numberOf (fieldAt (take N bs) i)) (λ i. numberOf (fieldAt bs i)) k (λ i l. ap numberOf (field-take N i bs (omega arith)))
 
 -- how many bytes lines with these numbers of fields have
 abbrev total : List ℕ → ℕ
 total [] = 0
-total (k ∷ ks) = (6 * k + 1) + total ks
+total (k ∷ ks) = lineLength k + total ks
 
 -- whether any byte is there
 none-take : (N : ℕ) (bs : Bytes) → 1 ≤ N → eqb (length (take N bs)) 0 ≡ eqb (length bs) 0
@@ -73,7 +73,7 @@ unfolding areLines
 lines-take [] N bs h = none-take N bs (omega arith)
 lines-take (k ∷ ks) N bs h =
     ap₂ (λ (b rest : Bool). elim b as (λ _. Bool) [ true ↦ rest | false ↦ false ]) (line-take N k bs (omega arith))
-    (ap (areLines ks) (drop-take (6 * k + 1) N bs) ∙ lines-take ks (N - (6 * k + 1)) (drop (6 * k + 1) bs) (omega arith))
+    (ap (areLines ks) (drop-take (lineLength k) N bs) ∙ lines-take ks (N - lineLength k) (drop (lineLength k) bs) (omega arith))
 
 -- the numbers of the lines
 lines-numbers-take : (ks : List ℕ) (N : ℕ) (bs : Bytes) → total ks ≤ N → lineNumbers ks (take N bs) ≡ lineNumbers ks bs
@@ -81,7 +81,7 @@ unfolding lineNumbers
 lines-numbers-take [] N bs h = refl
 lines-numbers-take (k ∷ ks) N bs h =
     ap₂ (λ (a : List ℤ) (b : List (List ℤ)). a ∷ b) (numbers-take N k bs (omega arith))
-    (ap (lineNumbers ks) (drop-take (6 * k + 1) N bs) ∙ lines-numbers-take ks (N - (6 * k + 1)) (drop (6 * k + 1) bs) (omega arith))
+    (ap (lineNumbers ks) (drop-take (lineLength k) N bs) ∙ lines-numbers-take ks (N - lineLength k) (drop (lineLength k) bs) (omega arith))
 
 -- ---- how long the lines behind line 1 are
 
@@ -91,17 +91,24 @@ total-append [] ys = omega arith
 total-append (x ∷ xs) ys = let ih = total-append xs ys in omega arith
 
 -- n lines of k fields each
-total-same : (n k : ℕ) → total (replicate n k) ≡ (6 * k + 1) * n
+total-same : (n k : ℕ) → total (replicate n k) ≡ lineLength k * n
 total-same zero k = omega arith
-total-same (suc n) k = let ih = total-same n k in omega (arith, mul-suc (6 * k + 1) n)
+total-same (suc n) k = let ih = total-same n k in omega (arith, mul-suc (lineLength k) n)
 
--- the most that an accepted line 1 asks for
-widths-most : (n m : ℕ) → n ≤ maxDepth → m ≤ maxDependences → total (widths n m) ≤ 265
+-- the most that an accepted line 1 asks for, with line 1 itself
+widths-most : (n m : ℕ) → n ≤ maxDepth → m ≤ maxDependences
+    → lineLength headerWidth + total (widths n m) ≤ textLength maxDepth maxDependences
 unfolding widths
 widths-most n m h k =
-    let p : 6 * n + 1 ≤ 19 = omega arith in
-    let q : (6 * n + 1) * m ≤ 19 * 8 = mul-le-mul p k in
-    omega (arith, total-append (replicate n 2) (n ∷ (replicate m n ++ ((1 + m) ∷ []))), total-append (replicate m n) ((1 + m) ∷ []), total-same n 2, total-same m n, q)
+    let p : lineLength n ≤ lineLength maxDepth = omega arith in
+    omega (
+      arith,
+      total-append (replicate n limitWidth) (n ∷ (replicate m n ++ ((1 + m) ∷ []))),
+      total-append (replicate m n) ((1 + m) ∷ []),
+      total-same n limitWidth,
+      total-same m n,
+      mul-le-mul p k,
+    )
 
 -- ---- shapes
 

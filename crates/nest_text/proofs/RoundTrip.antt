@@ -6,7 +6,7 @@ use mathlib.Core.Bool.{true}
 use mathlib.Core.List.{List, [], _∷_, _++_, map, flatMap, List·Memᴰ, List·Memᴰ·head, List·Memᴰ·tail}
 use Prim.Native.Nat.{ℕ, zero, suc, _+_, _*_, _≤_, _<_}
 use native.Mathlib.Omega.{arith}
-use lib.IntN.{ℤ, pos, negsuc}
+use lib.IntN.{ℤ, pos}
 use lib.Signed.{leZ, leZ-yes, _≤ℤ_}
 use lib.ListN.{length, getD}
 use Rattle.integers.specs.Lists.{tab, and-true, true-T, map-tab}
@@ -15,7 +15,7 @@ use Rattle.nest.specs.Nest.{part, depthOf, countOf, limitAt, limitsOf, timeOf, 
 use Rattle.nest.specs.Refusals.{firstMet, headerOrder, refusal}
 use Rattle.nest.proofs.FirstMet.{accepted-header}
 use Rattle.nest_text.specs.declared.Reading.{Reading}
-use Rattle.nest_text.specs.Fields.{Bytes, fieldOf}
+use Rattle.nest_text.specs.Fields.{columns, leastNumber, greatestNumber, Bytes, fieldOf}
 use Rattle.nest_text.specs.Text.{line, linesOf, textOf, areLines, lineNumbers, headerWidth, Shape, widths, shapes, shapesOf, fits, firstFitting}
 use Rattle.nest_text.specs.Text.{isHeaded, headerWidthOf, headerNumbers, headed, headerOf, restOf, isShaped, bodyNumbers, nestFrom, bodyOf, readRefusal, readNest}
 use Rattle.nest_text.specs.Reader.{headerRefusal}
@@ -81,10 +81,10 @@ lines-each (l ∷ ls) h zs (List·Memᴰ·tail m) = lines-each ls (h .1) zs m
 -- every number that is written for an accepted nest is from -99999 to 999999, and its field has six
 -- bytes
 pub fits-columns : (s : LoopNest) → refusal s ≡ 0 → (zs : List ℤ) → List·Memᴰ zs (linesOf s) → (z : ℤ) → List·Memᴰ z zs
-    → (negsuc 99998 ≤ℤ z) × (z ≤ℤ pos 999999) × (length (fieldOf z) ≡ 6)
+    → (leastNumber ≤ℤ z) × (z ≤ℤ greatestNumber) × (length (fieldOf z) ≡ columns)
 fits-columns s e zs m z n =
     let c = all-each zs (lines-each (linesOf s) (lines-in s e) zs m) z n in
-    let b = and-true (leZ (negsuc 99998) z) (leZ z (pos 999999)) c in
+    let b = and-true (leZ leastNumber z) (leZ z greatestNumber) c in
     (leZ-yes (true-T (b .0)), leZ-yes (true-T (b .1)), field-length z c)
 
 -- an accepted text is read as what its lines say

@@ -12,7 +12,7 @@ use Rattle.integers.specs.Lists.{tab, flatMap-append, flatMap-one, flatMap-leng
 use Rattle.nest.specs.declared.LoopNest.{LoopNest}
 use Rattle.nest.specs.Nest.{Limit, part, depthOf, countOf, limitAt, limitsOf, timeOf, dependenceAt, dependencesOf, weightsOf, maxDepth, maxDependences, maxCube, maxBoundary, maxWeight}
 use Rattle.nest_text.specs.Fields.{Bytes, fieldOf}
-use Rattle.nest_text.specs.Text.{line, linesOf, textOf}
+use Rattle.nest_text.specs.Text.{line, lineLength, headerWidth, limitWidth, linesOf, textOf, textLength}
 use Rattle.nest_text.specs.Stored.{InColumns, EachInColumns}
 use Rattle.nest_text.proofs.WriteLaws.{field-length, line-length, line-cons, pair-length}
 use Rattle.nest.proofs.Spans.{Spans}
@@ -47,7 +47,7 @@ text-parts s =
 -- ---- each number has room in six columns
 module _ (s : LoopNest) (h : Spans s) where
   -- line 1
-  pub shape-columns : EachInColumns (shapeLine s) 0 3
+  pub shape-columns : EachInColumns (shapeLine s) 0 headerWidth
   shape-columns zero l = count-columns 1 maxDepth (s .depth) (omega arith) (h .depth-span)
   shape-columns (suc zero) l = count-columns 1 maxDependences (s .count) (omega arith) (h .count-span)
   shape-columns (suc (suc zero)) l = count-columns 0 maxCube (s .cube) (omega arith) (h .cube-span)
@@ -74,48 +74,48 @@ module _ (s : LoopNest) (h : Spans s) where
   weight-columns i l = count-columns 0 maxWeight (getD (s .weights) (0 + i) (pos 0)) (omega arith) (h .weight-span i l)
 
   -- ---- the length of each part
-  pub shape-length : length (line (shapeLine s)) ≡ 19
+  pub shape-length : length (line (shapeLine s)) ≡ lineLength headerWidth
   unfolding tab
-  shape-length = line-length (λ i. getD (shapeLine s) (0 + i) (pos 0)) 3 shape-columns
+  shape-length = line-length (λ i. getD (shapeLine s) (0 + i) (pos 0)) headerWidth shape-columns
 
-  -- 13 bytes for each loop
-  pub limits-length : length (flatMap line (limitLines s)) ≡ 13 * depthOf s
-  limits-length = flatMap-length line (limitLine s) 13 (depthOf s) (λ k l. let c = limits-columns k l in pair-length (getD (s .lower) k (pos 0)) (getD (s .upper) k (pos 0)) (c .0) (c .1))
+  -- a line of two numbers for each loop
+  pub limits-length : length (flatMap line (limitLines s)) ≡ lineLength limitWidth * depthOf s
+  limits-length = flatMap-length line (limitLine s) (lineLength limitWidth) (depthOf s) (λ k l. let c = limits-columns k l in pair-length (getD (s .lower) k (pos 0)) (getD (s .upper) k (pos 0)) (c .0) (c .1))
 
-  -- six bytes for each component, and byte 10
-  pub time-length : length (line (timeOf s)) ≡ 6 * depthOf s + 1
+  -- one of as many numbers as components
+  pub time-length : length (line (timeOf s)) ≡ lineLength (depthOf s)
   unfolding timeOf part
   time-length = line-length (λ k. getD (s .time) (0 + k) (pos 0)) (depthOf s) time-columns
 
   -- as many for each dependence
-  pub dependences-length : length (flatMap line (dependencesOf s)) ≡ (6 * depthOf s + 1) * countOf s
+  pub dependences-length : length (flatMap line (dependencesOf s)) ≡ lineLength (depthOf s) * countOf s
   unfolding dependencesOf part
   dependences-length =
-      flatMap-length line (dependenceAt (s .dependences) (depthOf s)) (6 * depthOf s + 1) (countOf s)
+      flatMap-length line (dependenceAt (s .dependences) (depthOf s)) (lineLength (depthOf s)) (countOf s)
       (λ i l. line-length (λ k. getD (s .dependences) (i * maxDepth + k) (pos 0)) (depthOf s) (dependence-columns i l))
 
   -- the boundary value and a weight for each dependence
-  pub last-length : length (line (s .boundary ∷ weightsOf s)) ≡ 6 * (countOf s + 1) + 1
+  pub last-length : length (line (s .boundary ∷ weightsOf s)) ≡ lineLength (countOf s + 1)
   unfolding weightsOf part
   last-length =
       ap length (sym (line-cons (s .boundary) (weightsOf s))) ∙ length-append (fieldOf (s .boundary)) (line (weightsOf s))
       ∙ omega (arith, field-length (s .boundary) boundary-columns, line-length (λ i. getD (s .weights) (0 + i) (pos 0)) (countOf s) weight-columns)
 
   -- the length of the text, by the numbers of loops and dependences
-  pub text-length : length (textOf s) ≡ 19 + 13 * depthOf s + (6 * depthOf s + 1) * (countOf s + 1) + (6 * (countOf s + 1) + 1)
+  pub text-length : length (textOf s) ≡ textLength (depthOf s) (countOf s)
   text-length =
       let a = line (shapeLine s) in
       let b = flatMap line (limitLines s) in
       let c = line (timeOf s) in
       let d = flatMap line (dependencesOf s) in
       let e = line (s .boundary ∷ weightsOf s) in
-      let w : (6 * depthOf s + 1) * (countOf s + 1) ≡ (6 * depthOf s + 1) * countOf s + (6 * depthOf s + 1) = ap (λ k. (6 * depthOf s + 1) * k) (add-one (countOf s)) ∙ mul-suc (6 * depthOf s + 1) (countOf s) in
+      let w : lineLength (depthOf s) * (countOf s + 1) ≡ lineLength (depthOf s) * countOf s + lineLength (depthOf s) = ap (λ k. lineLength (depthOf s) * k) (add-one (countOf s)) ∙ mul-suc (lineLength (depthOf s)) (countOf s) in
       ap length (sym (text-parts s))
       ∙ omega (arith, length-append (((a ++ b) ++ c) ++ d) e, length-append ((a ++ b) ++ c) d, length-append (a ++ b) c, length-append a b, shape-length, limits-length, time-length, dependences-length, last-length, w)
 
-  -- the longest text of an accepted nest has 284 bytes
-  pub text-most : length (textOf s) ≤ 284
+  -- the longest text of an accepted nest
+  pub text-most : length (textOf s) ≤ textLength maxDepth maxDependences
   text-most =
-      let p : 6 * depthOf s + 1 ≤ 19 = omega (arith, h .depth-few) in
-      let q : countOf s + 1 ≤ 9 = omega (arith, h .count-few) in
+      let p : lineLength (depthOf s) ≤ lineLength maxDepth = omega (arith, h .depth-few) in
+      let q : countOf s + 1 ≤ maxDependences + 1 = omega (arith, h .count-few) in
       omega (arith, text-length, mul-le-mul p q, h .depth-few, h .count-few)

@@ -10,8 +10,8 @@ use lib.ListN.{length, getD, take, drop, set, replicate, length-append, length-r
 use lib.Seq.{sets, length-sets, sets-eq}
 use Rattle.integers.specs.Lists.{tab, flatMap-tab-more, flatMap-length}
 use Rattle.nest.specs.Nest.{part}
-use Rattle.nest_text.specs.Fields.{Bytes, numeralOf, fieldOf, newline}
-use Rattle.nest_text.specs.Text.{line}
+use Rattle.nest_text.specs.Fields.{columns, space, Bytes, numeralOf, fieldOf, newline}
+use Rattle.nest_text.specs.Text.{lineLength, limitWidth, line}
 use Rattle.nest_text.specs.Stored.{Stored, InColumns}
 use Rattle.nest_text.proofs.FieldLaws.{digits-short, within-neg, within-pos}
 
@@ -40,20 +40,20 @@ pub stored-as : {old new bs cs : Bytes} {at end : ℕ} → bs ≡ cs → Stored 
 stored-as {old} {new} {bs} {cs} {at} {end} e p = subst (λ (x : Bytes). Stored old at x new end) e p
 
 -- ---- fields
-text-short : (z : ℤ) → InColumns z → length (numeralOf z) ≤ 6
+numeral-short : (z : ℤ) → InColumns z → length (numeralOf z) ≤ columns
 unfolding numeralOf
-text-short (pos n) h = omega (arith, digits-short 6 6 n [] (within-pos n h) (omega arith))
-text-short (negsuc n) h = omega (arith, digits-short 5 6 (n + 1) [] (omega (arith, within-neg n h)) (omega arith))
+numeral-short (pos n) h = omega (arith, digits-short columns columns n [] (within-pos n h) (omega arith))
+numeral-short (negsuc n) h = omega (arith, digits-short 5 columns (n + 1) [] (omega (arith, within-neg n h)) (omega arith))
 
 -- a field has six bytes
-pub field-length : (z : ℤ) → InColumns z → length (fieldOf z) ≡ 6
+pub field-length : (z : ℤ) → InColumns z → length (fieldOf z) ≡ columns
 unfolding fieldOf
 field-length z h =
-    length-append (replicate (6 - length (numeralOf z)) 32) (numeralOf z) ∙ ap (λ (n : ℕ). n + length (numeralOf z)) (length-replicate (6 - length (numeralOf z)) 32)
-    ∙ omega (arith, text-short z h)
+    length-append (replicate (columns - length (numeralOf z)) space) (numeralOf z) ∙ ap (λ (n : ℕ). n + length (numeralOf z)) (length-replicate (columns - length (numeralOf z)) space)
+    ∙ omega (arith, numeral-short z h)
 
 -- what the field writer leaves
-pub stored-field : (l new : Bytes) (at : ℕ) (z : ℤ) → InColumns z → at + 6 ≤ length l → new ≡ take at l ++ (fieldOf z ++ drop (at + 6) l) → Stored l at (fieldOf z) new (at + 6)
+pub stored-field : (l new : Bytes) (at : ℕ) (z : ℤ) → InColumns z → at + columns ≤ length l → new ≡ take at l ++ (fieldOf z ++ drop (at + columns) l) → Stored l at (fieldOf z) new (at + columns)
 stored-field l new at z h r e =
     let six = field-length z h in
     record {
@@ -66,18 +66,18 @@ pub stored-byte : (l : Bytes) (at b : ℕ) → Stored l at (b ∷ []) (set l at 
 stored-byte l at b = record { bytes = refl; ends = refl }
 
 -- ---- lines
-pub fields-length : (g : ℕ → ℤ) (k : ℕ) → ((i : ℕ) → i < k → InColumns (g i)) → length (flatMap fieldOf (tab g k)) ≡ 6 * k
-fields-length g k h = flatMap-length fieldOf g 6 k (λ i l. field-length (g i) (h i l))
+pub fields-length : (g : ℕ → ℤ) (k : ℕ) → ((i : ℕ) → i < k → InColumns (g i)) → length (flatMap fieldOf (tab g k)) ≡ columns * k
+fields-length g k h = flatMap-length fieldOf g columns k (λ i l. field-length (g i) (h i l))
 
--- a line of k fields has 6 * k + 1 bytes
-pub line-length : (g : ℕ → ℤ) (k : ℕ) → ((i : ℕ) → i < k → InColumns (g i)) → length (line (tab g k)) ≡ 6 * k + 1
+-- a line of k fields has as many bytes as is said
+pub line-length : (g : ℕ → ℤ) (k : ℕ) → ((i : ℕ) → i < k → InColumns (g i)) → length (line (tab g k)) ≡ lineLength k
 unfolding line
 line-length g k h = length-append (flatMap fieldOf (tab g k)) (newline ∷ []) ∙ ap (λ n. n + 1) (fields-length g k h)
 
 -- one more field behind i of them
 pub fields-more : {old out new : Bytes} {at end : ℕ} (xs : List ℤ) (from i : ℕ) → Stored old at (flatMap fieldOf (part xs from i)) out end
-    → InColumns (getD xs (from + i) (pos 0)) → end + 6 ≤ length out → new ≡ take end out ++ (fieldOf (getD xs (from + i) (pos 0)) ++ drop (end + 6) out)
-    → Stored old at (flatMap fieldOf (part xs from (i + 1))) new (end + 6)
+    → InColumns (getD xs (from + i) (pos 0)) → end + columns ≤ length out → new ≡ take end out ++ (fieldOf (getD xs (from + i) (pos 0)) ++ drop (end + columns) out)
+    → Stored old at (flatMap fieldOf (part xs from (i + 1))) new (end + columns)
 unfolding part
 fields-more {old} {out} {new} {at} {end} xs from i p h r e =
     stored-as (sym (flatMap-tab-more fieldOf (λ k. getD xs (from + k) (pos 0)) i)) (stored-more p (stored-field out new end (getD xs (from + i) (pos 0)) h r e))
@@ -108,7 +108,7 @@ pub pair-line : {a b a′ b′ : ℤ} → a′ ≡ a → b′ ≡ b → line (pa
 unfolding part tab
 pair-line {a} {b} {a′} {b′} p q = ap (λ (x : ℤ). line (x ∷ b′ ∷ [])) p ∙ ap (λ (x : ℤ). line (a ∷ x ∷ [])) q
 
--- and has 13 bytes
-pub pair-length : (a b : ℤ) → InColumns a → InColumns b → length (line (a ∷ b ∷ [])) ≡ 13
+-- and as long as is said
+pub pair-length : (a b : ℤ) → InColumns a → InColumns b → length (line (a ∷ b ∷ [])) ≡ lineLength limitWidth
 unfolding tab
 pair-length a b h k = line-length (λ i. getD (a ∷ b ∷ []) (0 + i) (pos 0)) 2 (pair-fits {a = a} {b = b} refl refl h k)

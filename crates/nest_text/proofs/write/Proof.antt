@@ -8,8 +8,9 @@ use lib.ListN.{length}
 use Rattle.integers.specs.Bounds.{told}
 use Rattle.nest.specs.Nest.{toℕ, depthOf, countOf}
 use Rattle.nest.specs.Refusals.{refusal}
-use Rattle.nest_text.specs.Text.{textOf}
+use Rattle.nest_text.specs.Text.{lineLength, headerWidth, limitWidth, textOf}
 use Rattle.nest.proofs.Spans.{spans}
+use Rattle.nest_text.specs.Fields.{columns}
 use Rattle.nest_text.proofs.TextLength.{text-length}
 use Rattle.nest_text.proofs.WriteAnswers.{refused-first, refused-short, bytes-written}
 use Rattle.nest_text.proofs.write.Statement.{statement}
@@ -52,7 +53,7 @@ long : (c : tie.After-text-length) → c .text-length .result ≡ length (textOf
 long c =
     let d = c .before in
     let s = d .before .before .before .before .before .before .before .args .s in
-    c .text-length .ensures ∙ ap₂ (λ n m. 19 + 13 * n + (6 * n + 1) * (m + 1) + (6 * (m + 1) + 1)) (loops d) (dependences d)
+    c .text-length .ensures ∙ ap₂ (λ n m. lineLength headerWidth + lineLength limitWidth * n + lineLength n * (m + 1) + (columns * (m + 1) + 1)) (loops d) (dependences d)
     ∙ sym (text-length s (spans s (accepted (d .before .before .before .before))))
 
 returns-2 : tie.Need-returns-2

@@ -5,6 +5,7 @@ use Prim.Native.Nat.{_+_, _*_, _-_, _<_, _^_}
 use native.Mathlib.Omega.{arith}
 use borrow.Author.Tests.{not-true, not-false}
 use lib.ListN.{length}
+use Rattle.nest_text.specs.Fields.{columns}
 use Rattle.nest_text.proofs.BodyLaws.{Reached, reached-start, turn-more, turn-malformed, body-trailing, body-whole, body-malformed}
 use Rattle.nest_text.proofs.reader.read_body.Statement.{statement}
 use Rattle.nest_text.proofs.reader.read_body.Tie as tie
@@ -71,7 +72,7 @@ wide c = c .before .before .before .before .before .before
 
 -- the state after one line more
 next : (c : tie.After-with-line Inv-loop μ-loop)
-    → Reached (start c .args .n) (start c .args .m) (start c .args .header .cube) (start c .args .text .now) (turn c .loop .i + 1) (turn c .loop .at + (6 * wide c .width .result + 1)) (c .with-line .result)
+    → Reached (start c .args .n) (start c .args .m) (start c .args .header .cube) (start c .args .text .now) (turn c .loop .i + 1) (turn c .loop .at + (columns * wide c .width .result + 1)) (c .with-line .result)
 next c =
     let e = c .before .before .before .before in
     let d = wide c in

@@ -7,6 +7,7 @@ use lib.Seq.{length-take-le}
 use Rattle.nest_text.specs.declared.fields.Field.{Field}
 use Rattle.nest_text.specs.declared.fields.Field.the-variants.{Number}
 use Rattle.nest_text.specs.Text.{fieldAt}
+use Rattle.nest_text.specs.Fields.{columns}
 use Rattle.nest_text.proofs.FieldLaws.{back}
 use Rattle.nest_text.proofs.LineLaws.{LineRead, line-unended, line-short, field-of-line, field-malformed, line-start, line-more, line-end}
 use Rattle.nest_text.proofs.reader.read_line.Statement.{statement}
@@ -43,7 +44,7 @@ returns-2 c =
 slice-aggregate-line : tie.Need-slice-aggregate-line Inv-loop μ-loop
 slice-aggregate-line c =
     let a = c .before .before .before .before .before .args in
-    sym (length-take-le (6 * a .k) (a .text .now) (omega arith))
+    sym (length-take-le (columns * a .k) (a .text .now) (omega arith))
 
 loop-holds : tie.Need-loop-holds Inv-loop μ-loop
 loop-holds c = let a = c .before .before .before .before .before .args in line-start (a .text .now) (a .k)
@@ -54,7 +55,7 @@ mul-field-at c = search needs
 field-at-requires : tie.Need-field-at-requires Inv-loop μ-loop
 field-at-requires c κs =
     let a = c .before .before .before .before .before .before .before .args in
-    let e = length-take-le (6 * a .k) (a .text .now) (omega arith) in
+    let e = length-take-le (columns * a .k) (a .text .now) (omega arith) in
     omega arith
 
 enum-known-z : tie.Need-enum-known-z Inv-loop μ-loop

@@ -9,7 +9,7 @@ use lib.IntN.{pos}
 use lib.ListN.{length, getD}
 use Rattle.integers.specs.Lists.{tab}
 use Rattle.nest.specs.Nest.{part, dependenceAt}
-use Rattle.nest_text.specs.Text.{line}
+use Rattle.nest_text.specs.Text.{lineLength, line}
 use Rattle.nest_text.specs.Stored.{Stored}
 use native.Mathlib.Nat.{mul-le-mul-left, mul-suc}
 use native.Mathlib.Numerals.{add-one}
@@ -18,7 +18,7 @@ use Rattle.nest_text.proofs.writer.put_dependences.Statement.{statement
 use Rattle.nest_text.proofs.writer.put_dependences.Tie as tie
 
 abbrev Inv-loop : tie.InvT-loop
-Inv-loop out₀ at n m dependences end₀ i₀ out end i = (i ≤ m) × ((end ≡ at + (6 * n + 1) * i) × ((length out ≡ length out₀) × Stored out₀ at (flatMap line (tab (dependenceAt dependences n) i)) out end))
+Inv-loop out₀ at n m dependences end₀ i₀ out end i = (i ≤ m) × ((end ≡ at + lineLength n * i) × ((length out ≡ length out₀) × Stored out₀ at (flatMap line (tab (dependenceAt dependences n) i)) out end))
 
 abbrev μ-loop : tie.MeasureT-loop
 μ-loop out₀ at n m dependences end₀ i₀ out end i = m - i
@@ -32,7 +32,7 @@ next-row : (w i : ℕ) → w * (i + 1) ≡ w * i + w
 next-row w i = ap (λ k. w * k) (add-one i) ∙ mul-suc w i
 
 -- the bytes of dependence i
-row-length : (a : tie.Start Inv-loop μ-loop) (i : ℕ) → i < a .args .m → length (line (dependenceAt (a .args .t3) (a .args .n) i)) ≡ 6 * a .args .n + 1
+row-length : (a : tie.Start Inv-loop μ-loop) (i : ℕ) → i < a .args .m → length (line (dependenceAt (a .args .t3) (a .args .n) i)) ≡ lineLength (a .args .n)
 unfolding part
 row-length a i h = line-length (λ k. getD (a .args .t3) (i * 3 + k) (pos 0)) (a .args .n) (a .pre .1 .1 .1 i h)
 
@@ -50,7 +50,7 @@ put-line-requires : tie.Need-put-line-requires Inv-loop μ-loop
 put-line-requires c κs =
     let a = c .before .before .before .before .before in
     let l = c .before .before .before .loop in
-    (omega (arith, row-fits (6 * a .args .n + 1) (l .i) (a .args .m) (omega arith)), (omega arith, a .pre .1 .1 .1 (l .i) (omega arith)))
+    (omega (arith, row-fits (lineLength (a .args .n)) (l .i) (a .args .m) (omega arith)), (omega arith, a .pre .1 .1 .1 (l .i) (omega arith)))
 
 add-i : tie.Need-add-i Inv-loop μ-loop
 add-i c = omega arith
@@ -64,7 +64,7 @@ loop-again c =
     let l = c .before .before .before .before .before .before .loop in
     let s = lines-more (dependenceAt (a .args .t3) (a .args .n)) (l .i) (l .inv .1 .1 .1) (c .before .before .put-line .ensures) in
     let w = row-length a (l .i) (omega arith) in
-    (omega arith, (omega (arith, w, c .before .before .put-line .ensures .ends, next-row (6 * a .args .n + 1) (l .i)), (stored-length s, s)))
+    (omega arith, (omega (arith, w, c .before .before .put-line .ensures .ends, next-row (lineLength (a .args .n)) (l .i)), (stored-length s, s)))
 
 same-length : tie.Need-same-length Inv-loop μ-loop
 same-length c = c .before .loop .inv .1 .1 .0

@@ -9,14 +9,14 @@ use lib.ListN.{length, getD, take, drop}
 use Rattle.integers.specs.Bounds.{told}
 use Rattle.integers.specs.Lists.{tab}
 use Rattle.nest.specs.Nest.{part}
-use Rattle.nest_text.specs.Fields.{fieldOf}
+use Rattle.nest_text.specs.Fields.{columns, fieldOf}
 use Rattle.nest_text.specs.Stored.{Stored, InColumns}
 use Rattle.nest_text.proofs.WriteLaws.{stored-none, stored-length, fields-more}
 use Rattle.nest_text.proofs.writer.put_fields.Statement.{statement}
 use Rattle.nest_text.proofs.writer.put_fields.Tie as tie
 
 abbrev Inv-loop : tie.InvT-loop
-Inv-loop out₀ at numbers from k end₀ i₀ out end i = (i ≤ k) × ((end ≡ at + 6 * i) × ((length out ≡ length out₀) × Stored out₀ at (flatMap fieldOf (part numbers from i)) out end))
+Inv-loop out₀ at numbers from k end₀ i₀ out end i = (i ≤ k) × ((end ≡ at + columns * i) × ((length out ≡ length out₀) × Stored out₀ at (flatMap fieldOf (part numbers from i)) out end))
 
 abbrev μ-loop : tie.MeasureT-loop
 μ-loop out₀ at numbers from k end₀ i₀ out end i = k - i
@@ -56,7 +56,7 @@ loop-again c =
     let a = d .before .before .before .before .before .before in
     let l = d .before .before .before .before .loop in
     let z = getD (a .args .numbers .now) (a .args .from + l .i) (pos 0) in
-    let e = d .write-at .ensures ∙ ap (λ x. take (l .end) (l .out) ++ (fieldOf x ++ drop (l .end + 6) (l .out))) (told z (d .before .write-at-arg2 .given)) in
+    let e = d .write-at .ensures ∙ ap (λ x. take (l .end) (l .out) ++ (fieldOf x ++ drop (l .end + columns) (l .out))) (told z (d .before .write-at-arg2 .given)) in
     let s = fields-more (a .args .numbers .now) (a .args .from) (l .i) (l .inv .1 .1 .1) (a .pre .1 .1 (l .i) (omega arith)) (omega arith) e in
     (omega arith, (omega arith, (stored-length s, s)))
 

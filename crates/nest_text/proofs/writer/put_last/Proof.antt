@@ -7,7 +7,7 @@ use Prim.Native.Nat.{_+_}
 use lib.ListN.{take, drop}
 use mir.Facts.{toZ-ofZ}
 use Rattle.nest.specs.Nest.{part}
-use Rattle.nest_text.specs.Fields.{fieldOf}
+use Rattle.nest_text.specs.Fields.{columns, fieldOf}
 use Rattle.nest_text.proofs.WriteLaws.{stored-more, stored-as, stored-field, line-cons}
 use Rattle.nest_text.proofs.writer.put_last.Statement.{statement}
 use Rattle.nest_text.proofs.writer.put_last.Tie as tie
@@ -31,7 +31,7 @@ returns : tie.Need-returns
 returns c =
     let d = c .before .before .before .before .before .before .before .before .before .before in
     let a = d .args in
-    let e = c .before .before .before .before .before .before .before .write-at .ensures ∙ ap (λ x. take (a .at) (a .out .now) ++ (fieldOf x ++ drop (a .at + 6) (a .out .now))) (toZ-ofZ (d .fits .boundary)) in
+    let e = c .before .before .before .before .before .before .before .write-at .ensures ∙ ap (λ x. take (a .at) (a .out .now) ++ (fieldOf x ++ drop (a .at + columns) (a .out .now))) (toZ-ofZ (d .fits .boundary)) in
     let f = stored-field (a .out .now) (c .before .before .before .before .before .before .before .write-at .last .0) (a .at) (a .boundary) (d .pre .1 .1 .0) (omega arith) e in
     stored-as (line-cons (a .boundary) (part (a .t4) 0 (a .m))) (stored-more f (c .before .before .put-line .ensures))
 

@@ -8,7 +8,7 @@ use native.Mathlib.Omega.{arith}
 use lib.IntN.{ℤ, pos}
 use lib.ListN.{length, getD}
 use Rattle.integers.specs.Lists.{tab}
-use Rattle.nest_text.specs.Text.{line}
+use Rattle.nest_text.specs.Text.{lineLength, limitWidth, line}
 use Rattle.nest_text.specs.Stored.{Stored}
 use mir.Syntax.{w64}
 use mir.Val.{toZ, ofZ}
@@ -22,7 +22,7 @@ abbrev limits : List ℤ → List ℤ → ℕ → List ℤ
 limits lower upper k = getD lower k (pos 0) ∷ getD upper k (pos 0) ∷ []
 
 abbrev Inv-loop : tie.InvT-loop
-Inv-loop out₀ at n lower upper end₀ k₀ out end k = (k ≤ n) × ((end ≡ at + 13 * k) × ((length out ≡ length out₀) × Stored out₀ at (flatMap line (tab (limits lower upper) k)) out end))
+Inv-loop out₀ at n lower upper end₀ k₀ out end k = (k ≤ n) × ((end ≡ at + lineLength limitWidth * k) × ((length out ≡ length out₀) × Stored out₀ at (flatMap line (tab (limits lower upper) k)) out end))
 
 abbrev μ-loop : tie.MeasureT-loop
 μ-loop out₀ at n lower upper end₀ k₀ out end k = n - k

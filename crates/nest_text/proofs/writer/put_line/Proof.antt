@@ -6,6 +6,7 @@ use Prim.Native.Nat.{_+_, _*_}
 use lib.IntN.{pos}
 use lib.ListN.{getD}
 use Rattle.nest.specs.Nest.{part}
+use Rattle.nest_text.specs.Fields.{columns}
 use Rattle.nest_text.proofs.WriteLaws.{fields-length, line-ends}
 use Rattle.nest_text.proofs.writer.put_line.Statement.{statement}
 use Rattle.nest_text.proofs.writer.put_line.Tie as tie
@@ -14,7 +15,7 @@ put-fields-requires : tie.Need-put-fields-requires
 put-fields-requires c κs = search needs
 
 -- where the fields end
-fields-end : (c : tie.After-slice-known2) → c .before .before .put-fields .result ≡ c .before .before .before .before .before .args .at + 6 * c .before .before .before .before .before .args .k
+fields-end : (c : tie.After-slice-known2) → c .before .before .put-fields .result ≡ c .before .before .before .before .before .args .at + columns * c .before .before .before .before .before .args .k
 unfolding part
 fields-end c =
     let a = c .before .before .before .before .before in
