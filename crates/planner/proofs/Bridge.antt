@@ -19,8 +19,8 @@ use Rattle.grouping.specs.Basis.{pick, Fill}
 use Rattle.numbering.specs.Tables.{row}
 use Rattle.partition.specs.GroupRows.{GroupRow, GroupTable}
 use Rattle.partition.proofs.Theorems.{chosen-bound}
-use Rattle.mapping.specs.Mapping.{inOrder, processorsOf, processorCount, isMessage, total, messageCount}
-use Rattle.mapping.specs.GroupNumbers.{Laid, HasRows, valuesIn, numberAt}
+use Rattle.mapping.specs.Mapping.{inOrder, nextTurn, processorsOf, processorCount, isMessage, total, messageCount}
+use Rattle.mapping.specs.GroupNumbers.{Laid, HasRows, columnOf, valuesIn, numberAt}
 use Rattle.mapping.proofs.Theorems.{processors-length, table-below, table-processors, table-messages}
 use Rattle.sequential.specs.Sequential.{sequential, loop, ruleOf, valuesOf}
 use Rattle.planner.specs.declared.Planning.{Planning}
@@ -47,7 +47,7 @@ order-is (suc (suc (suc n))) x y z g h f e = absurd (omega arith)
 
 -- the values of a row are those of its group
 values-are : (rows : List ℤ) (k count : ℕ) (g : Group) → count ≤ 2 → GroupRow count g (row rows k) → valuesIn rows k ≡ inOrder g
-unfolding valuesIn
+unfolding valuesIn columnOf tab nextTurn
 values-are rows k count g h r =
     ap (λ (a : ℤ). numberAt rows 1 k ∷ numberAt rows 2 k ∷ a ∷ []) (number-is rows k 0 (omega arith) ∙ r .class-is) ∙ order-is count (numberAt rows 1 k) (numberAt rows 2 k) (getD (row rows k) 3 (pos 0)) g h (r .fill) (r .along-is)
 

@@ -1,0 +1,69 @@
+// The directions of a table of groups: the least value and the width of each (document 01: cards).
+use crate::dealing::next_turn;
+use crate::parts::height;
+use nest::LoopNest;
+ghost use mathlib.Core.Path.{_≡_};
+ghost use Prim.Native.Nat.{_<_, _≤_};
+ghost use Rattle.nest.specs.Nest.{maxDepth, maxIterations};
+ghost use Rattle.mapping.specs.GroupNumbers.{columnOf, HasRows, column, spanOf, directionsIn, held, noBits};
+
+// Numbers a row of the table of groups: class, q, b, and one that is not read here.
+pub const ROW: usize = 4;
+
+// A direction with no bits: its least value and its width.
+struct Reach {
+    least: i64,
+    width: u64,
+}
+
+// The direction whose values are the numbers j of n rows.
+fn reach_in(rows: &[i64], j: usize, n: usize) -> Reach
+    requires { ⌜ (1 ≤ n) × (n ≤ maxIterations) × (j < maxDepth) × HasRows (now rows) n ⌝ }
+    ensures { λ r. ⌜ (r .least ≡ spanOf (column (now (rows .entry)) j n) .least) × (r .width ≡ spanOf (column (now (rows .entry)) j n) .width) ⌝ }
+{
+    let mut least = rows[j];
+    let mut greatest = least;
+    for k in 1..n {
+        let value = rows[k * ROW + j];
+        least = integers::lesser(least, value);
+        greatest = integers::larger(greatest, value);
+    }
+    Reach {
+        least: least,
+        width: height(least, greatest) + 1,
+    }
+}
+
+// The directions q, b, class with no bits: the least value and the width of each.
+pub struct Spans {
+    pub least: [i64; LoopNest::MAX_DEPTH],
+    pub width: [u64; LoopNest::MAX_DEPTH],
+}
+
+// The column of direction j: a row begins with the class, which is the last direction.
+pub fn column_of(j: usize) -> usize
+    requires { ⌜ j < maxDepth ⌝ }
+    ensures { λ r. ⌜ r ≡ columnOf j ⌝ }
+{
+    next_turn(j)
+}
+
+// The directions of n rows.
+pub fn spans_in(rows: &[i64], n: usize) -> Spans
+    requires { ⌜ (1 ≤ n) × (n ≤ maxIterations) × HasRows (now rows) n ⌝ }
+    ensures { λ r. ⌜ held (r .least) (r .width) noBits ≡ directionsIn (now (rows .entry)) n ⌝ }
+{
+    let mut least = [0i64; LoopNest::MAX_DEPTH];
+    let mut width = [0u64; LoopNest::MAX_DEPTH];
+    for j in 0..LoopNest::MAX_DEPTH {
+        let at = column_of(j);
+        let reach = reach_in(rows, at, n);
+        let low = reach.least;
+        least[j] = low;
+        width[j] = reach.width;
+    }
+    Spans {
+        least: least,
+        width: width,
+    }
+}

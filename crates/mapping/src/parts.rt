@@ -1,0 +1,39 @@
+// The parts of a direction and their Gray codes (000, algorithm 2; document 01: cards).
+ghost use mathlib.Core.Path.{_≡_};
+ghost use Prim.Native.Nat.{_^_, _<_, _≤_};
+ghost use lib.IntN.{natAbs, _-ℤ_};
+ghost use lib.Signed.{_≤ℤ_};
+ghost use Rattle.nest.specs.Nest.{toℕ, maxCube};
+ghost use Rattle.mapping.specs.Mapping.{gray, partOf};
+ghost use Rattle.mapping.specs.GroupNumbers.{maxNumber};
+
+// 2^e.
+pub fn power(e: u64) -> u64
+    requires { ⌜ e < 64 ⌝ }
+    ensures { λ r. ⌜ r ≡ 2 ^ e ⌝ }
+{
+    1u64 << e
+}
+
+// The Gray code of a part.
+fn gray_of(p: u64) -> u64
+    ensures { λ r. ⌜ r ≡ gray p ⌝ }
+{
+    p ^ (p / 2)
+}
+
+// How far a value is above the least.
+pub fn height(least: i64, value: i64) -> u64
+    requires { ⌜ (natAbs least ≤ maxNumber) × (natAbs value ≤ maxNumber) × (least ≤ℤ value) ⌝ }
+    ensures { λ r. ⌜ r ≡ toℕ (value -ℤ least) ⌝ }
+{
+    (value - least) as u64
+}
+
+// The Gray code of a value's part in a direction.
+pub fn code_of(value: i64, least: i64, width: u64, bits: u64) -> u64
+    requires { ⌜ (natAbs least ≤ maxNumber) × (natAbs value ≤ maxNumber) × (least ≤ℤ value) × (toℕ (value -ℤ least) < width) × (bits ≤ maxCube) ⌝ }
+    ensures { λ r. ⌜ r ≡ gray (partOf (record { least = least; width = width; bits = bits }) value) ⌝ }
+{
+    gray_of(height(least, value) * power(bits) / width)
+}
