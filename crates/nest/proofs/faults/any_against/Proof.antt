@@ -1,0 +1,70 @@
+-- `any_against` meets its contract. The loop's invariant: P·d is at least 1 for the i dependences passed. Assumes nothing.
+use mathlib.Core.Path.{_≡_, refl, sym, _∙_, ap}
+use mathlib.Core.Bool.{false}
+use Prim.Native.Nat.{_*_, _≤_, _-_}
+use native.Mathlib.Omega.{arith}
+use borrow.Author.Needs.{needs}
+use lib.IntN.{pos}
+use lib.Signed.{ltZ}
+use Rattle.integers.specs.Bounds.{told}
+use Rattle.integers.specs.Machine.{reads}
+use Rattle.integers.specs.Lists.{any, tab, any-tab-more, any-tab-found, any-tab-each}
+use Rattle.integers.specs.Vector.{dots}
+use Rattle.nest.specs.Nest.{part, dependenceAt, maxDepth}
+use Rattle.nest.specs.Refusals.{outOfSpan}
+use Rattle.nest.proofs.Vectors.{both-small}
+use Rattle.nest.proofs.faults.any_against.Statement.{statement}
+use Rattle.nest.proofs.faults.any_against.Tie as tie
+
+abbrev Inv-loop : tie.InvT-loop
+Inv-loop time dependences n m i₀ i = (i ≤ m) × (any (λ d. ltZ (dots (part time 0 n) d) (pos 1)) (tab (dependenceAt dependences n) i) ≡ false)
+
+abbrev μ-loop : tie.MeasureT-loop
+μ-loop time dependences n m i₀ i = m - i
+
+-- what the test compares with 1
+test : (c : tie.After-inner-product Inv-loop μ-loop)
+    → ltZ (dots (part (c .before .before .before .args .time .now) 0 (c .before .before .before .args .n)) (dependenceAt (c .before .before .before .args .dependences .now) (c .before .before .before .args .n) (c .before .before .loop .i))) (pos 1)
+    ≡ ltZ (reads (c .inner-product .result)) (pos 1)
+test c = ap (λ z. ltZ z (pos 1)) (sym (told (c .inner-product .result) (c .inner-product .ok) ∙ c .inner-product .ensures))
+
+loop-holds : tie.Need-loop-holds Inv-loop μ-loop
+unfolding any tab
+loop-holds c = (search needs, refl)
+
+mul-inner-product : tie.Need-mul-inner-product Inv-loop μ-loop
+mul-inner-product c = search needs
+
+inner-product-requires : tie.Need-inner-product-requires Inv-loop μ-loop
+inner-product-requires c κs =
+    let s = c .before .before in (
+      (s .pre .0 .0, s .pre .0 .1, omega arith),
+      both-small (s .args .time .now) (s .args .dependences .now) (c .before .loop .i * maxDepth) (s .args .n) (s .pre .1 .0)
+          (any-tab-each outOfSpan (dependenceAt (s .args .dependences .now) (s .args .n)) (s .args .m) (c .before .loop .i) (s .pre .1 .1) (search needs)),
+    )
+
+returns : tie.Need-returns Inv-loop μ-loop
+returns c =
+    let s = c .before .before .before .before in
+    let l = c .before .before .before .loop in
+    sym (any-tab-found (λ d. ltZ (dots (part (s .args .time .now) 0 (s .args .n)) d) (pos 1)) (dependenceAt (s .args .dependences .now) (s .args .n)) (s .args .m) (l .i) (search needs) (test (c .before) ∙ c .if1 .taken))
+
+add-i : tie.Need-add-i Inv-loop μ-loop
+add-i c = search needs
+
+loop-less : tie.Need-loop-less Inv-loop μ-loop
+loop-less c = search needs
+
+loop-again : tie.Need-loop-again Inv-loop μ-loop
+loop-again c =
+    let s = c .before .before .before .before in
+    let l = c .before .before .before .loop in
+    (search needs, any-tab-more (λ d. ltZ (dots (part (s .args .time .now) 0 (s .args .n)) d) (pos 1)) (dependenceAt (s .args .dependences .now) (s .args .n)) (l .i) (l .inv .1) (test (c .before) ∙ c .if1 .left))
+
+returns-2 : tie.Need-returns-2 Inv-loop μ-loop
+returns-2 c =
+    let e : c .before .loop .i ≡ c .before .before .args .m = omega arith in
+    sym (rw e at (c .before .loop .inv .1))
+
+pub any-against-spec : {M : Type 1} → statement M
+any-against-spec = tie.close (tie.spec Inv-loop μ-loop loop-holds mul-inner-product inner-product-requires returns add-i loop-less loop-again returns-2)
