@@ -1,5 +1,5 @@
--- The entry that makes a move, in terms of the run: lent buffers as layout, state and view; the move that a request asks for; and the document's number and values for
--- each case of the answer.
+-- The entry that makes a move, in terms of the run: lent buffers as layout, state and view; the
+-- move that a request asks for; and the document's number and values for each case of the answer.
 -- Assumes nothing.
 use mathlib.Core.Path.{_≡_}
 use mathlib.Core.Bool.{Bool, true, false, not, _&&_}
@@ -14,7 +14,8 @@ use Rattle.execution.specs.declared.Move as asked
 use Rattle.execution.specs.declared.Move.the-variants.{Compute, Deliver}
 use Rattle.execution.specs.declared.Answer.{Answer}
 use Rattle.execution.specs.declared.Answer.the-variants.{Computed, Delivered, Refused}
-use Rattle.execution.specs.Rules.{Move, compute, deliver, Effect, refuse, iteration, message, Layout, View, effect}
+use Rattle.execution.specs.Rules.{Move, compute, deliver, Effect, refuse, iteration, message, Layout, View}
+use Rattle.execution.specs.Rules.{effect}
 use Rattle.execution.specs.Run.{State, stateView, bit, after, moveEffect, moveAnswer, moveAfter}
 
 -- ---- lent buffers
@@ -38,7 +39,8 @@ rankOr n (some k) = k
 
 -- ---- requests and answers
 
--- the move that is asked for (document 01: a card's compute, or a delivery that names a rank and an offset number)
+-- the move that is asked for (document 01: a card's compute, or a delivery that names a
+-- rank and an offset number)
 abbrev pub moveOf : asked.Move → Move
 moveOf (Compute processor) = compute processor
 moveOf (Deliver d) = deliver (d .rank) (d .dependence)
@@ -49,7 +51,8 @@ numberOf (Computed c) = 0
 numberOf (Delivered d) = 0
 numberOf (Refused number) = number
 
--- the answer to a move of this effect, and the values that it carries: the rank and the value written, the message delivered, or the number of the refusal
+-- the answer to a move of this effect, and the values that it carries: the rank and the value
+-- written, the message delivered, or the number of the refusal
 unfoldable pub answerOf : LoopNest → List ℕ → Effect → Answer
 answerOf s values (refuse number) = Refused number
 answerOf s values (iteration k) = Computed (record { rank = k; value = valueOf (ruleOf s) s values k })
@@ -61,12 +64,17 @@ answerOf s values (message k i) = Delivered (record { rank = k; dependence = i }
 abbrev pub Delivers : LoopNest → List ℕ → List ℕ → List ℕ → ℕ → ℕ → Answer → List ℕ → Type 0
 Delivers s processors done delivered k i r delivered′ =
     ((steps values : List ℕ) → r ≡ answerOf s values (effect s (viewIn steps processors done delivered) (deliver k i)))
-    × ((steps values : List ℕ) → stateIn values done delivered′ ≡ after (ruleOf s) s (stateIn values done delivered) (effect s (viewIn steps processors done delivered) (deliver k i)))
+    × ((steps values : List ℕ)
+    → stateIn values done delivered′
+    ≡ after (ruleOf s) s (stateIn values done delivered)
+    (effect s (viewIn steps processors done delivered) (deliver k i)))
 
--- the same where the rank j of the source is known, which is n or more where there is none: the message can be delivered
+-- the same where the rank j of the source is known, which is n or more where there is none: the
+-- message can be delivered
 abbrev pub readyFrom : ℕ → ℕ → List ℕ → List ℕ → List ℕ → ℕ → ℕ → Bool
 readyFrom j n processors done delivered k i =
-    ltb j n && (not (eqb (getD processors j 0) (getD processors k 0)) && (not (eqb (getD done j 0) 0) && not (bit i (getD delivered k 0))))
+    ltb j n && (not (eqb (getD processors j 0) (getD processors k 0))
+    && (not (eqb (getD done j 0) 0) && not (bit i (getD delivered k 0))))
 
 -- what is answered, and what is left
 abbrev pub deliveryAnswer : Bool → ℕ → ℕ → Answer
@@ -77,23 +85,26 @@ deliveryLeft b delivered k i = elim b [ true ↦ set delivered k (getD delivered
 
 -- ---- calls of the entry
 
--- what a call of `make_move` promises that finds this layout and state, answers r and leaves the state st′: the answer,
--- its number, and the state
+-- what a call of `make_move` promises that finds this layout and state, answers r and leaves the
+-- state st′: the answer, its number, and the state
 abbrev pub Makes : LoopNest → Layout → State ℕ → Move → Answer → State ℕ → Type 0
 Makes s L st mv r st′ =
     (r ≡ answerOf s (st .values) (moveEffect s L st mv))
     × ((numberOf r ≡ moveAnswer s L st mv) × (st′ ≡ moveAfter (ruleOf s) s L st mv))
 
--- a list of calls of `make_move`, each with the same nest and tables and with the state as the call before left it
+-- a list of calls of `make_move`, each with the same nest and tables and with the state
+-- as the call before left it
 pub data EntryCalls (s : LoopNest) (L : Layout) : State ℕ → List asked.Move → List Answer → State ℕ → Type 0 where
   no-entry : {st : State ℕ} → EntryCalls s L st [] [] st
   entry : {st st′ last : State ℕ} {what : asked.Move} {whats : List asked.Move} {r : Answer} {rs : List Answer}
-      → Makes s L st (moveOf what) r st′ → EntryCalls s L st′ whats rs last → EntryCalls s L st (what ∷ whats) (r ∷ rs) last
+      → Makes s L st (moveOf what) r st′ → EntryCalls s L st′ whats rs last
+      → EntryCalls s L st (what ∷ whats) (r ∷ rs) last
 
 -- ---- the answers in full
 
--- how an effect of the reference machine is told: a refused move by its number, a computed iteration by its rank and the
--- sequential loop's value, a delivered message by its rank and dependence
+-- how an effect of the reference machine is told: a refused move by its number, a
+-- computed iteration by its rank and the sequential loop's value, a delivered message
+-- by its rank and dependence
 unfoldable pub toldBy : LoopNest → Effect → Answer
 toldBy s (refuse number) = Refused number
 toldBy s (iteration k) = Computed (record { rank = k; value = getD (valuesOf s) k 0 })

@@ -1,4 +1,5 @@
--- The run of a loop nest: rules, reference machine, run on tables, the claim about any list of moves, and the entry that makes a move.
+-- The run of a loop nest: rules, reference machine, run on tables, the claim about any list of
+-- moves, and the entry that makes a move.
 pub mod Rules
 pub mod Machine
 pub mod Run

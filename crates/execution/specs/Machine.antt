@@ -1,5 +1,6 @@
--- The reference machine (document 01: bare rack). It is fed the nest and the moves' arguments and nothing else: steps, processors and messages are the nest's own.
--- It holds the computed iterations and the delivered messages, none at first.
+-- The reference machine (document 01: bare rack). It is fed the nest and the moves' arguments and
+-- nothing else: steps, processors and messages are the nest's own. It holds the computed iterations
+-- and the delivered messages, none at first.
 -- Assumes nothing.
 use mathlib.Core.Bool.{Bool, false, _&&_, _||_}
 use mathlib.Core.List.{List, [], _∷_}

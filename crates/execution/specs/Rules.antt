@@ -1,6 +1,7 @@
--- The moves of a machine that runs a loop nest, and the rules that answer them (document 01, "The run"). An iteration is named by its rank, a dependence by its
--- number. The rules stand here once, for whatever a move looks at: the reference machine's sets, or lent tables of any content. specs/Words.antt has them in the
--- document's sentences.
+-- The moves of a machine that runs a loop nest, and the rules that answer them (document 01, "The
+-- run"). An iteration is named by its rank, a dependence by its number. The rules stand here once,
+-- for whatever a move looks at: the reference machine's sets, or lent tables of any content.
+-- specs/Words.antt has them in the document's sentences.
 -- Assumes nothing.
 use mathlib.Core.Bool.{Bool, true, false, not, _&&_}
 use mathlib.Core.List.{List}
@@ -21,7 +22,8 @@ unfoldable pub every : (ℕ → Bool) → ℕ → Bool
 every t zero = true
 every t (suc n) = every t n && t n
 
--- the better of n and the best so far: n, if it passes and none does before it or its key is less than that of the best
+-- the better of n and the best so far: n, if it passes and none does before it or its key is
+-- less than that of the best
 unfoldable pub better : (ℕ → ℕ) → ℕ → Bool → Option ℕ → Option ℕ
 better key n false best = best
 better key n true none = some n
@@ -34,12 +36,14 @@ least test key (suc n) = better key n (test n) (least test key n)
 
 -- ---- moves
 
--- a compute on a processor (document 01: card), or a delivery that names a rank and a dependence number (offset number); any numbers
+-- a compute on a processor (document 01: card), or a delivery that names a rank and a dependence
+-- number (offset number); any numbers
 pub data Move : Type 0 where
   compute : ℕ → Move
   deliver : ℕ → ℕ → Move
 
--- what a move comes to: it is refused with a number, or computes one iteration, or delivers the message of an iteration along a dependence
+-- what a move comes to: it is refused with a number, or computes one iteration, or delivers the
+-- message of an iteration along a dependence
 pub data Effect : Type 0 where
   refuse : ℕ → Effect
   iteration : ℕ → Effect
@@ -77,7 +81,8 @@ processorIn v k = getD (v .layout .processors) k 0
 abbrev pub waits : View → ℕ → ℕ → Bool
 waits v p k = not (v .done k) && eqb (processorIn v k) p
 
--- the source of iteration k along dependence i is there for processor p: done if on p, its message delivered otherwise; one that is no iteration always is
+-- the source of iteration k along dependence i is there for processor p: done if on p, its message
+-- delivered otherwise; one that is no iteration always is
 abbrev pub there : View → ℕ → ℕ → ℕ → Option ℕ → Bool
 there v p k i none = true
 there v p k i (some j) = elim (eqb (processorIn v j) p) [ true ↦ v .done j | false ↦ v .delivered k i ]
@@ -87,12 +92,17 @@ abbrev pub sourceDone : View → Option ℕ → Bool
 sourceDone v none = false
 sourceDone v (some j) = v .done j
 
--- compute on processor p, once the iteration that it takes is known: 17 if there is none, 15 if a source is not there
+-- compute on processor p, once the iteration that it takes is known: 17 if there is none, 15
+-- if a source is not there
 unfoldable pub taking : LoopNest → View → ℕ → Option ℕ → Effect
 taking s v p none = refuse 17
-taking s v p (some k) = elim (every (λ i. there v p k i (sourceRank s k i)) (countOf s)) [ true ↦ iteration k | false ↦ refuse 15 ]
+taking s v p (some k) = elim (every (λ i. there v p k i (sourceRank s k i)) (countOf s)) [
+  | true ↦ iteration k
+  | false ↦ refuse 15
+]
 
--- the message of an iteration along a dependence can be delivered: it is one, its source is done, and it is not delivered
+-- the message of an iteration along a dependence can be delivered: it is one, its source is
+-- done, and it is not delivered
 abbrev pub ready : LoopNest → View → ℕ → ℕ → Bool
 ready s v k i = isMessage s (v .layout .processors) k i && (sourceDone v (sourceRank s k i) && not (v .delivered k i))
 
@@ -100,8 +110,15 @@ ready s v k i = isMessage s (v .layout .processors) k i && (sourceDone v (source
 unfoldable pub delivering : LoopNest → View → ℕ → ℕ → Effect
 delivering s v k i = elim (ready s v k i) [ true ↦ message k i | false ↦ refuse 16 ]
 
--- a move: 18 where there is no such processor, rank or dependence. A compute takes the processor's iteration that is not done, least in step, then in rank
+-- a move: 18 where there is no such processor, rank or dependence. A compute takes the processor's
+-- iteration that is not done, least in step, then in rank
 unfoldable pub effect : LoopNest → View → Move → Effect
 effect s v (compute p) =
-    elim (ltb p (2 ^ toℕ (s .cube))) [ true ↦ taking s v p (least (waits v p) (stepIn v) (length (pointsOf s))) | false ↦ refuse 18 ]
-effect s v (deliver k i) = elim (ltb k (length (pointsOf s)) && ltb i (countOf s)) [ true ↦ delivering s v k i | false ↦ refuse 18 ]
+    elim (ltb p (2 ^ toℕ (s .cube))) [
+      | true ↦ taking s v p (least (waits v p) (stepIn v) (length (pointsOf s)))
+      | false ↦ refuse 18
+    ]
+effect s v (deliver k i) = elim (ltb k (length (pointsOf s)) && ltb i (countOf s)) [
+  | true ↦ delivering s v k i
+  | false ↦ refuse 18
+]

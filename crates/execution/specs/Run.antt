@@ -1,5 +1,6 @@
--- The run on lent tables of any content (document 01, "The run"), under any rule. The state has three buffers, which may be longer than there are iterations; entry k
--- of each is iteration k's. `moveEffect` is the transition of the entry that makes a move: refusals 2 to 14, then the rules.
+-- The run on lent tables of any content (document 01, "The run"), under any rule. The state has
+-- three buffers, which may be longer than there are iterations; entry k of each is iteration k's.
+-- `moveEffect` is the transition of the entry that makes a move: refusals 2 to 14, then the rules.
 -- Assumes nothing.
 use mathlib.Core.Bool.{Bool, true, false, not}
 use mathlib.Core.List.{List, [], _∷_}
@@ -36,9 +37,13 @@ withValue st k x = record { values = set (st .values) k x; done = set (st .done)
 
 -- bit i of iteration k's delivered byte, which is 0, becomes 1
 abbrev pub withBit : {Val : Type 0} → State Val → ℕ → ℕ → State Val
-withBit st k i = record { values = st .values; done = st .done; delivered = set (st .delivered) k (getD (st .delivered) k 0 + 2 ^ i) }
+withBit st k i = record {
+  values = st .values;
+  done = st .done;
+  delivered = set (st .delivered) k (getD (st .delivered) k 0 + 2 ^ i);
+}
 
--- ---- refusals before the rules: 2 to 13, then 14 for a buffer with fewer entries than there are iterations
+-- ---- refusals before the rules: 2 to 13, then 14 for a buffer that is too short
 
 -- for a layout and a state of these lengths
 unfoldable pub moveRefusal : LoopNest → ℕ → ℕ → ℕ → ℕ → ℕ → ℕ
@@ -48,7 +53,8 @@ moveRefusal s steps processors values done delivered =
 
 -- for this layout and state
 abbrev pub stateRefusal : {Val : Type 0} → LoopNest → Layout → State Val → ℕ
-stateRefusal s L st = moveRefusal s (length (L .steps)) (length (L .processors)) (length (st .values)) (length (st .done)) (length (st .delivered))
+stateRefusal s L st = moveRefusal s (length (L .steps)) (length (L .processors)) (length (st .values))
+    (length (st .done)) (length (st .delivered))
 
 -- what a move on this layout and state comes to
 unfoldable pub moveEffect : {Val : Type 0} → LoopNest → Layout → State Val → Move → Effect

@@ -1,4 +1,5 @@
-// What a move finds in lent tables: the iteration that a processor takes, the sources that are there, the messages that can be delivered.
+// What a move finds in lent tables: the iteration that a processor takes, the sources that are
+// there, the messages that can be delivered.
 use nest::LoopNest;
 ghost use mathlib.Core.Path.{_≡_};
 ghost use mathlib.Core.Bool.{false};
@@ -40,7 +41,8 @@ pub fn with_bit(byte: u8, i: usize) -> u8
     byte + power(i)
 }
 
-// The better of the best so far, which is n where there is none, and iteration k: k, if it is not done and on processor p, and there is no best or k's step is less.
+// The better of the best so far, which is n where there is none, and iteration k: k, if it is not
+// done and on processor p, and there is no best or k's step is less.
 fn better_of(
     steps: &[u32],
     processors: &[u8],
@@ -50,8 +52,11 @@ fn better_of(
     k: usize,
     best: usize,
 ) -> usize
-    requires { ⌜ (k < n) × (best ≤ n) × (n ≤ length (now steps)) × (n ≤ length (now processors)) × (n ≤ length (now done)) ⌝ }
-    ensures { λ r. ⌜ ((o : Option ℕ) → best ≡ rankOr n o → ((j : ℕ) → o ≡ some j → j < n) → r ≡ rankOr n (better (stepIn (viewIn (now (steps .entry)) (now (processors .entry)) (now (done .entry)) [])) k (waits (viewIn (now (steps .entry)) (now (processors .entry)) (now (done .entry)) []) p k) o)) ⌝ }
+    requires { ⌜ (k < n) × (best ≤ n) × (n ≤ length (now steps)) × (n ≤ length (now processors))
+        × (n ≤ length (now done)) ⌝ }
+    ensures { λ r. ⌜ ((o : Option ℕ) → best ≡ rankOr n o → ((j : ℕ) → o ≡ some j → j < n)
+        → r ≡ rankOr n (better (stepIn (viewIn (now (steps .entry)) (now (processors .entry)) (now (done .entry)) [])) k
+        (waits (viewIn (now (steps .entry)) (now (processors .entry)) (now (done .entry)) []) p k) o)) ⌝ }
 {
     if processors[k] != p {
         return best;
@@ -78,10 +83,13 @@ fn next_on(processors: &[u8], n: usize, p: u8, from: usize) -> usize
     n
 }
 
-// The iteration that processor p takes, of n: the one that is not done, least in step, then in rank; n where there is none.
+// The iteration that processor p takes, of n: the one that is not done, least in step, then in
+// rank; n where there is none.
 pub fn next_iteration(steps: &[u32], processors: &[u8], done: &[u8], n: usize, p: u8) -> usize
     requires { ⌜ (n ≤ length (now steps)) × (n ≤ length (now processors)) × (n ≤ length (now done)) ⌝ }
-    ensures { λ r. ⌜ r ≡ rankOr n (least (waits (viewIn (now (steps .entry)) (now (processors .entry)) (now (done .entry)) []) p) (stepIn (viewIn (now (steps .entry)) (now (processors .entry)) (now (done .entry)) [])) n) ⌝ }
+    ensures { λ r. ⌜ r ≡ rankOr n
+        (least (waits (viewIn (now (steps .entry)) (now (processors .entry)) (now (done .entry)) []) p)
+        (stepIn (viewIn (now (steps .entry)) (now (processors .entry)) (now (done .entry)) [])) n) ⌝ }
 {
     let mut best = n;
     let mut k = next_on(processors, n, p, 0);
@@ -92,8 +100,8 @@ pub fn next_iteration(steps: &[u32], processors: &[u8], done: &[u8], n: usize, p
     best
 }
 
-// Whether the source of iteration k, at this index point, along dependence i is there for processor p: done if on p, its message delivered otherwise; one that is no iteration
-// always is.
+// Whether the source of iteration k, at this index point, along dependence i is there for processor
+// p: done if on p, its message delivered otherwise; one that is no iteration always is.
 fn source_there(
     s: LoopNest,
     n: usize,
@@ -105,9 +113,11 @@ fn source_there(
     k: usize,
     i: usize,
 ) -> bool
-    requires { ⌜ (refusal s ≡ 0) × (n ≡ length (pointsOf s)) × (k < n) × (point ≡ padded maxDepth (getD (pointsOf s) k [])) × (i < countOf s) ⌝ }
+    requires { ⌜ (refusal s ≡ 0) × (n ≡ length (pointsOf s)) × (k < n)
+        × (point ≡ padded maxDepth (getD (pointsOf s) k [])) × (i < countOf s) ⌝ }
     requires { ⌜ (n ≤ length (now processors)) × (n ≤ length (now done)) × (n ≤ length (now delivered)) ⌝ }
-    ensures { λ r. ⌜ r ≡ there (viewIn [] (now (processors .entry)) (now (done .entry)) (now (delivered .entry))) p k i (sourceRank s k i) ⌝ }
+    ensures { λ r. ⌜ r ≡ there (viewIn [] (now (processors .entry)) (now (done .entry)) (now (delivered .entry))) p k i
+        (sourceRank s k i) ⌝ }
 {
     let j = nest::source_at(s, point, i);
     if n <= j {
@@ -131,7 +141,9 @@ pub fn all_there(
 ) -> bool
     requires { ⌜ (refusal s ≡ 0) × (n ≡ length (pointsOf s)) × (k < n) ⌝ }
     requires { ⌜ (n ≤ length (now processors)) × (n ≤ length (now done)) × (n ≤ length (now delivered)) ⌝ }
-    ensures { λ r. ⌜ r ≡ every (λ i. there (viewIn [] (now (processors .entry)) (now (done .entry)) (now (delivered .entry))) p k i (sourceRank s k i)) (countOf s) ⌝ }
+    ensures { λ r. ⌜ r ≡ every
+        (λ i. there (viewIn [] (now (processors .entry)) (now (done .entry)) (now (delivered .entry))) p k i
+        (sourceRank s k i)) (countOf s) ⌝ }
 {
     let point = nest::point_of(s, k);
     let m = nest::to_size(s.count);
@@ -143,8 +155,8 @@ pub fn all_there(
     true
 }
 
-// Whether the message of iteration k along dependence i, whose source has rank j or is none of the n iterations, can be delivered: it is one, its source is done, and
-// its bit is 0.
+// Whether the message of iteration k along dependence i, whose source has rank j or is none of the
+// n iterations, can be delivered: it is one, its source is done, and its bit is 0.
 pub fn is_ready(
     j: usize,
     n: usize,

@@ -1,5 +1,6 @@
-// The run of a loop nest, move by move: a processor computes its next iteration, or a message is delivered. specs/ has the rules, the reference machine
-// and the claim about a whole list of moves; proofs/ has its proof.
+// The run of a loop nest, move by move: a processor computes its next iteration, or a message is
+// delivered. specs/ has the rules, the reference machine and the claim about a whole list of
+// moves; proofs/ has its proof.
 mod finding;
 
 use nest::LoopNest;
@@ -13,7 +14,8 @@ ghost use Rattle.nest.specs.Refusals.{refusal, orElse, shortBuffer, noRoom};
 ghost use Rattle.sequential.specs.Sequential.{ruleOf};
 ghost use Rattle.execution.specs.Rules.{compute, deliver, effect};
 ghost use Rattle.execution.specs.Run.{after};
-ghost use Rattle.execution.specs.Entry.{layoutIn, stateIn, viewIn, moveOf, answerOf, Makes, Delivers, readyFrom, deliveryAnswer, deliveryLeft};
+ghost use Rattle.execution.specs.Entry.{layoutIn, stateIn, viewIn, moveOf, answerOf, Makes, Delivers, readyFrom};
+ghost use Rattle.execution.specs.Entry.{deliveryAnswer, deliveryLeft};
 
 // waiting: compute, a source is not there
 pub const WAITING: u8 = 15;
@@ -30,7 +32,8 @@ pub struct Delivery {
     pub dependence: usize,
 }
 
-// A move: a processor computes its next iteration, or a message is delivered. Any numbers may be asked for.
+// A move: a processor computes its next iteration, or a message is delivered. Any
+// numbers may be asked for.
 pub enum Move {
     Compute(usize),
     Deliver(Delivery),
@@ -81,7 +84,8 @@ pub fn check_buffers(
     if delivered < n { SHORT_BUFFER } else { 0 }
 }
 
-// A compute on processor p, of an accepted nest of n iterations: the iteration that it takes gets its value and its done byte, if its sources are there.
+// A compute on processor p, of an accepted nest of n iterations: the iteration that it takes gets
+// its value and its done byte, if its sources are there.
 pub fn compute(
     s: LoopNest,
     n: usize,
@@ -93,9 +97,15 @@ pub fn compute(
     delivered: &[u8],
 ) -> Answer
     requires { ⌜ (refusal s ≡ 0) × (n ≡ length (pointsOf s)) ⌝ }
-    requires { ⌜ (n ≤ length (now steps)) × (n ≤ length (now processors)) × (n ≤ length (now values)) × (n ≤ length (now done)) × (n ≤ length (now delivered)) ⌝ }
-    ensures { λ r. ⌜ r ≡ answerOf s (now (values .entry)) (effect s (viewIn (now (steps .entry)) (now (processors .entry)) (now (done .entry)) (now (delivered .entry))) (compute p)) ⌝ }
-    ensures { λ r. ⌜ stateIn (now (values .exit)) (now (done .exit)) (now (delivered .entry)) ≡ after (ruleOf s) s (stateIn (now (values .entry)) (now (done .entry)) (now (delivered .entry))) (effect s (viewIn (now (steps .entry)) (now (processors .entry)) (now (done .entry)) (now (delivered .entry))) (compute p)) ⌝ }
+    requires { ⌜ (n ≤ length (now steps)) × (n ≤ length (now processors)) × (n ≤ length (now values))
+        × (n ≤ length (now done)) × (n ≤ length (now delivered)) ⌝ }
+    ensures { λ r. ⌜ r ≡ answerOf s (now (values .entry))
+        (effect s (viewIn (now (steps .entry)) (now (processors .entry)) (now (done .entry)) (now (delivered .entry)))
+        (compute p)) ⌝ }
+    ensures { λ r. ⌜ stateIn (now (values .exit)) (now (done .exit)) (now (delivered .entry))
+        ≡ after (ruleOf s) s (stateIn (now (values .entry)) (now (done .entry)) (now (delivered .entry)))
+        (effect s (viewIn (now (steps .entry)) (now (processors .entry)) (now (done .entry)) (now (delivered .entry)))
+        (compute p)) ⌝ }
 {
     if processors_in(s) <= p {
         return Answer::Refused(NO_SUCH_PLACE);
@@ -117,8 +127,8 @@ pub fn compute(
     })
 }
 
-// A delivery of the message of iteration k along dependence i, both there, whose source has rank j or is none of the n iterations: its bit is set, if it is a message that can
-// be delivered.
+// A delivery of the message of iteration k along dependence i, both there, whose source has rank j
+// or is none of the n iterations: its bit is set, if it is a message that can be delivered.
 pub fn deliver_from(
     j: usize,
     n: usize,
@@ -130,8 +140,11 @@ pub fn deliver_from(
 ) -> Answer
     requires { ⌜ (k < n) × (i < maxDependences) ⌝ }
     requires { ⌜ (n ≤ length (now processors)) × (n ≤ length (now done)) × (n ≤ length (now delivered)) ⌝ }
-    ensures { λ r. ⌜ r ≡ deliveryAnswer (readyFrom j n (now (processors .entry)) (now (done .entry)) (now (delivered .entry)) k i) k i ⌝ }
-    ensures { λ r. ⌜ now (delivered .exit) ≡ deliveryLeft (readyFrom j n (now (processors .entry)) (now (done .entry)) (now (delivered .entry)) k i) (now (delivered .entry)) k i ⌝ }
+    ensures { λ r. ⌜ r ≡ deliveryAnswer
+        (readyFrom j n (now (processors .entry)) (now (done .entry)) (now (delivered .entry)) k i) k i ⌝ }
+    ensures { λ r. ⌜ now (delivered .exit)
+        ≡ deliveryLeft (readyFrom j n (now (processors .entry)) (now (done .entry)) (now (delivered .entry)) k i)
+        (now (delivered .entry)) k i ⌝ }
 {
     if !finding::is_ready(j, n, processors, done, delivered, k, i) {
         return Answer::Refused(OUT_OF_TURN);
@@ -143,7 +156,8 @@ pub fn deliver_from(
     })
 }
 
-// A delivery of the message of iteration k along dependence i, of an accepted nest of n iterations: its bit is set, if it is a message that can be delivered.
+// A delivery of the message of iteration k along dependence i, of an accepted nest of n iterations:
+// its bit is set, if it is a message that can be delivered.
 fn deliver(
     s: LoopNest,
     n: usize,
@@ -155,7 +169,8 @@ fn deliver(
 ) -> Answer
     requires { ⌜ (refusal s ≡ 0) × (n ≡ length (pointsOf s)) ⌝ }
     requires { ⌜ (n ≤ length (now processors)) × (n ≤ length (now done)) × (n ≤ length (now delivered)) ⌝ }
-    ensures { λ r. ⌜ Delivers s (now (processors .entry)) (now (done .entry)) (now (delivered .entry)) k i r (now (delivered .exit)) ⌝ }
+    ensures { λ r. ⌜ Delivers s (now (processors .entry)) (now (done .entry)) (now (delivered .entry)) k i r
+        (now (delivered .exit)) ⌝ }
 {
     if n <= k {
         return Answer::Refused(NO_SUCH_PLACE);
@@ -168,8 +183,9 @@ fn deliver(
     deliver_from(j, n, k, i, processors, done, delivered)
 }
 
-// Makes the move that is asked for, on the step and processor tables of a plan and on the state's three buffers, all of any content. Answers what the move did, or the number of
-// its refusal, 2 to 14, then 18, 17, 15 or 16, with no buffer changed.
+// Makes the move that is asked for, on the step and processor tables of a plan and on the state's
+// three buffers, all of any content. Answers what the move did, or the number of its refusal, 2 to
+// 14, then 18, 17, 15 or 16, with no buffer changed.
 pub fn make_move(
     s: LoopNest,
     request: Request,

@@ -1,4 +1,5 @@
--- The mapping of blocks to the processors of a hypercube (000, algorithm 2; document 01, "Card" and "Card message").
+-- The mapping of blocks to the processors of a hypercube (000, algorithm 2; document 01,
+-- "Card" and "Card message").
 pub mod Mapping
 -- The groups of the iterations as numbers in a table.
 pub mod GroupNumbers

@@ -43,7 +43,8 @@ pub fn processor_count(processors: &[u8], n: usize) -> usize
 // 1 if iteration j is one of n and on another processor than iteration k, 0 otherwise.
 fn is_elsewhere(processors: &[u8], n: usize, k: usize, j: usize) -> usize
     requires { ⌜ (k < n) × (n ≤ length (now processors)) ⌝ }
-    ensures { λ r. ⌜ r ≡ oneIf (ltb j n && not (eqb (getD (now (processors .entry)) j 0) (getD (now (processors .entry)) k 0))) ⌝ }
+    ensures { λ r. ⌜ r ≡ oneIf
+        (ltb j n && not (eqb (getD (now (processors .entry)) j 0) (getD (now (processors .entry)) k 0))) ⌝ }
 {
     if n <= j {
         return 0;
@@ -51,7 +52,8 @@ fn is_elsewhere(processors: &[u8], n: usize, k: usize, j: usize) -> usize
     if processors[j] == processors[k] { 0 } else { 1 }
 }
 
-// How many messages there are to iteration k. Its sources are found by their keys, and the cursors go forward to them.
+// How many messages there are to iteration k. Its sources are found by their keys, and the
+// cursors go forward to them.
 fn next_messages(
     keys: &[i64],
     k: usize,
@@ -75,10 +77,13 @@ fn next_messages(
     number
 }
 
-// How many messages there are between the processors of the iterations of an accepted nest, from the keys of its index points.
+// How many messages there are between the processors of the iterations of an accepted nest, from
+// the keys of its index points.
 pub fn message_count(s: LoopNest, keys: &[i64], processors: &[u8]) -> usize
     requires { ⌜ (refusal s ≡ 0) × (now keys ≡ keysOf s) × (length (pointsOf s) ≤ length (now processors)) ⌝ }
-    ensures { λ r. ⌜ r ≡ total (tab (λ k. count (isMessage s (take (length (pointsOf s)) (now (processors .entry))) k) (tab (λ i. i) (countOf s))) (length (pointsOf s))) ⌝ }
+    ensures { λ r. ⌜ r ≡ total
+        (tab (λ k. count (isMessage s (take (length (pointsOf s)) (now (processors .entry))) k)
+        (tab (λ i. i) (countOf s))) (length (pointsOf s))) ⌝ }
 {
     let n = keys.len();
     let m = nest::to_size(s.count);

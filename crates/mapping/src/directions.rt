@@ -19,7 +19,8 @@ struct Reach {
 // The direction whose values are the numbers j of n rows.
 fn reach_in(rows: &[i64], j: usize, n: usize) -> Reach
     requires { ⌜ (1 ≤ n) × (n ≤ maxIterations) × (j < maxDepth) × HasRows (now rows) n ⌝ }
-    ensures { λ r. ⌜ (r .least ≡ spanOf (column (now (rows .entry)) j n) .least) × (r .width ≡ spanOf (column (now (rows .entry)) j n) .width) ⌝ }
+    ensures { λ r. ⌜ (r .least ≡ spanOf (column (now (rows .entry)) j n) .least)
+        × (r .width ≡ spanOf (column (now (rows .entry)) j n) .width) ⌝ }
 {
     let mut least = rows[j];
     let mut greatest = least;

@@ -32,7 +32,8 @@ pub fn height(least: i64, value: i64) -> u64
 
 // The Gray code of a value's part in a direction.
 pub fn code_of(value: i64, least: i64, width: u64, bits: u64) -> u64
-    requires { ⌜ (natAbs least ≤ maxNumber) × (natAbs value ≤ maxNumber) × (least ≤ℤ value) × (toℕ (value -ℤ least) < width) × (bits ≤ maxCube) ⌝ }
+    requires { ⌜ (natAbs least ≤ maxNumber) × (natAbs value ≤ maxNumber) × (least ≤ℤ value)
+        × (toℕ (value -ℤ least) < width) × (bits ≤ maxCube) ⌝ }
     ensures { λ r. ⌜ r ≡ gray (partOf (record { least = least; width = width; bits = bits }) value) ⌝ }
 {
     gray_of(height(least, value) * power(bits) / width)

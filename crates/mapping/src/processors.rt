@@ -15,7 +15,8 @@ ghost use lib.Signed.{_≤ℤ_};
 ghost use Rattle.integers.specs.Lists.{tab, count};
 ghost use Rattle.nest.specs.Nest.{toℕ, maxDepth, maxCube, maxIterations};
 ghost use Rattle.mapping.specs.Mapping.{bitsOf, gray, partOf, joined};
-ghost use Rattle.mapping.specs.GroupNumbers.{maxNumber, valuesIn, numberAt, columnOf, HasRows, processorsIn, heldAt, held, Fits};
+ghost use Rattle.mapping.specs.GroupNumbers.{maxNumber, valuesIn, numberAt, columnOf, HasRows, processorsIn};
+ghost use Rattle.mapping.specs.GroupNumbers.{heldAt, held, Fits};
 
 // The code of row k's value in direction j.
 fn code_at(
@@ -27,7 +28,8 @@ fn code_at(
     bits: [u64; LoopNest::MAX_DEPTH],
 ) -> u64
     requires { ⌜ (k < maxIterations) × (j < maxDepth) × HasRows (now rows) (k + 1) × (getD bits j 0 ≤ maxCube) ⌝ }
-    requires { ⌜ (natAbs (getD least j (pos 0)) ≤ maxNumber) × (getD least j (pos 0) ≤ℤ numberAt (now rows) (columnOf j) k)
+    requires { ⌜ (natAbs (getD least j (pos 0)) ≤ maxNumber)
+        × (getD least j (pos 0) ≤ℤ numberAt (now rows) (columnOf j) k)
         × (toℕ (numberAt (now rows) (columnOf j) k -ℤ getD least j (pos 0)) < getD width j 0) ⌝ }
     ensures { λ r. ⌜ r ≡ gray (partOf (heldAt least width bits j) (numberAt (now (rows .entry)) (columnOf j) k)) ⌝ }
 {
@@ -43,7 +45,8 @@ fn processor_of(
     bits: [u64; LoopNest::MAX_DEPTH],
 ) -> u8
     requires { ⌜ (k < maxIterations) × HasRows (now rows) (k + 1) × (bitsOf (held least width bits) ≤ maxCube) ⌝ }
-    requires { ⌜ ((j : ℕ) → j < maxDepth → natAbs (getD least j (pos 0)) ≤ maxNumber) × Fits (held least width bits) (valuesIn (now rows) k) ⌝ }
+    requires { ⌜ ((j : ℕ) → j < maxDepth → natAbs (getD least j (pos 0)) ≤ maxNumber)
+        × Fits (held least width bits) (valuesIn (now rows) k) ⌝ }
     ensures { λ r. ⌜ r ≡ joined 0 (held least width bits) (valuesIn (now (rows .entry)) k) ⌝ }
 {
     let mut p = 0u64;
@@ -62,9 +65,13 @@ fn fill_processors(
     bits: [u64; LoopNest::MAX_DEPTH],
     processors: &mut [u8],
 )
-    requires { ⌜ (n ≤ maxIterations) × HasRows (now rows) n × (bitsOf (held least width bits) ≤ maxCube) × (n ≤ length (now processors)) ⌝ }
-    requires { ⌜ ((j : ℕ) → j < maxDepth → natAbs (getD least j (pos 0)) ≤ maxNumber) × ((k : ℕ) → k < n → Fits (held least width bits) (valuesIn (now rows) k)) ⌝ }
-    ensures { λ _. ⌜ now (processors .exit) ≡ tab (λ k. joined 0 (held least width bits) (valuesIn (now (rows .entry)) k)) n ++ drop n (now (processors .entry)) ⌝ }
+    requires { ⌜ (n ≤ maxIterations) × HasRows (now rows) n × (bitsOf (held least width bits) ≤ maxCube)
+        × (n ≤ length (now processors)) ⌝ }
+    requires { ⌜ ((j : ℕ) → j < maxDepth → natAbs (getD least j (pos 0)) ≤ maxNumber)
+        × ((k : ℕ) → k < n → Fits (held least width bits) (valuesIn (now rows) k)) ⌝ }
+    ensures { λ _. ⌜ now (processors .exit)
+        ≡ tab (λ k. joined 0 (held least width bits) (valuesIn (now (rows .entry)) k)) n
+        ++ drop n (now (processors .entry)) ⌝ }
 {
     for k in 0..n {
         processors[k] = processor_of(rows, k, least, width, bits);
@@ -73,8 +80,10 @@ fn fill_processors(
 
 // The processors of n blocks whose groups stand in `rows`, in a hypercube of dimension c.
 fn block_processors(rows: &[i64], n: usize, c: usize, processors: &mut [u8])
-    requires { ⌜ (1 ≤ n) × (n ≤ maxIterations) × (c ≤ maxCube) × HasRows (now rows) n × (n ≤ length (now processors)) ⌝ }
-    ensures { λ _. ⌜ now (processors .exit) ≡ processorsIn (now (rows .entry)) n c ++ drop n (now (processors .entry)) ⌝ }
+    requires { ⌜ (1 ≤ n) × (n ≤ maxIterations) × (c ≤ maxCube) × HasRows (now rows) n
+        × (n ≤ length (now processors)) ⌝ }
+    ensures { λ _. ⌜ now (processors .exit)
+        ≡ processorsIn (now (rows .entry)) n c ++ drop n (now (processors .entry)) ⌝ }
 {
     let spans = spans_in(rows, n);
     let least = spans.least;
@@ -85,15 +94,19 @@ fn block_processors(rows: &[i64], n: usize, c: usize, processors: &mut [u8])
 
 // The processor of each of n iterations: that of its block.
 fn place_iterations(owners: &[u8], blocks: &[u16], n: usize, processors: &mut [u8])
-    requires { ⌜ (n ≤ length (now blocks)) × (n ≤ length (now processors)) × (length (now owners) ≤ maxIterations) × ((k : ℕ) → k < n → getD (now blocks) k 0 < length (now owners)) ⌝ }
-    ensures { λ _. ⌜ now (processors .exit) ≡ tab (λ k. getD (now (owners .entry)) (getD (now (blocks .entry)) k 0) 0) n ++ drop n (now (processors .entry)) ⌝ }
+    requires { ⌜ (n ≤ length (now blocks)) × (n ≤ length (now processors)) × (length (now owners) ≤ maxIterations)
+        × ((k : ℕ) → k < n → getD (now blocks) k 0 < length (now owners)) ⌝ }
+    ensures { λ _. ⌜ now (processors .exit)
+        ≡ tab (λ k. getD (now (owners .entry)) (getD (now (blocks .entry)) k 0) 0) n
+        ++ drop n (now (processors .entry)) ⌝ }
 {
     for k in 0..n {
         processors[k] = owners[blocks[k] as usize];
     }
 }
 
-// The processors of n iterations, whose blocks are given, in a hypercube of dimension c. Row b of `rows` has the group of block b, of so many blocks.
+// The processors of n iterations, whose blocks are given, in a hypercube of dimension c. Row b of
+// `rows` has the group of block b, of so many blocks.
 pub fn processors_into(
     rows: &[i64],
     count: usize,
@@ -103,8 +116,11 @@ pub fn processors_into(
     processors: &mut [u8],
 )
     requires { ⌜ (1 ≤ count) × (count ≤ maxIterations) × (c ≤ maxCube) × HasRows (now rows) count ⌝ }
-    requires { ⌜ (n ≤ length (now blocks)) × (n ≤ length (now processors)) × ((k : ℕ) → k < n → getD (now blocks) k 0 < count) ⌝ }
-    ensures { λ _. ⌜ now (processors .exit) ≡ tab (λ k. getD (processorsIn (now (rows .entry)) count c) (getD (now (blocks .entry)) k 0) 0) n ++ drop n (now (processors .entry)) ⌝ }
+    requires { ⌜ (n ≤ length (now blocks)) × (n ≤ length (now processors))
+        × ((k : ℕ) → k < n → getD (now blocks) k 0 < count) ⌝ }
+    ensures { λ _. ⌜ now (processors .exit)
+        ≡ tab (λ k. getD (processorsIn (now (rows .entry)) count c) (getD (now (blocks .entry)) k 0) 0) n
+        ++ drop n (now (processors .entry)) ⌝ }
 {
     let mut owners = [0u8; LoopNest::MAX_ITERATIONS];
     block_processors(rows, count, c, &mut owners);

@@ -1,5 +1,5 @@
-// Whether a part of a nest is at fault: a number out of span, limits crossed, a dependence backward, equal to another or against the
-// time vector.
+// Whether a part of a nest is at fault: a number out of span, limits crossed, a dependence
+// backward, equal to another or against the time vector.
 use crate::LoopNest;
 ghost use mathlib.Core.Path.{_≡_};
 ghost use mathlib.Core.Bool.{false};
@@ -61,7 +61,8 @@ pub fn any_crossed(lower: &[i64], upper: &[i64], n: usize) -> bool
     false
 }
 
-// Whether dependence i, of n components, is zero or has a negative component before any positive one.
+// Whether dependence i, of n components, is zero or has a negative component
+// before any positive one.
 fn is_backward(dependences: &[i64], i: usize, n: usize) -> bool
     requires { ⌜ i * maxDepth + n ≤ length (now dependences) ⌝ }
     ensures { λ r. ⌜ r ≡ backward (dependenceAt (now (dependences .entry)) n i) ⌝ }
@@ -113,7 +114,8 @@ pub fn any_backward(dependences: &[i64], n: usize, m: usize) -> bool
 // Whether dependences i and j, of n components, are equal.
 fn are_equal(dependences: &[i64], i: usize, j: usize, n: usize) -> bool
     requires { ⌜ (i * maxDepth + n ≤ length (now dependences)) × (j * maxDepth + n ≤ length (now dependences)) ⌝ }
-    ensures { λ r. ⌜ r ≡ eqV (dependenceAt (now (dependences .entry)) n i) (dependenceAt (now (dependences .entry)) n j) ⌝ }
+    ensures { λ r. ⌜ r ≡ eqV (dependenceAt (now (dependences .entry)) n i)
+        (dependenceAt (now (dependences .entry)) n j) ⌝ }
 {
     for k in 0..n {
         let a = dependences[i * LoopNest::MAX_DEPTH + k];
@@ -128,7 +130,8 @@ fn are_equal(dependences: &[i64], i: usize, j: usize, n: usize) -> bool
 // Whether dependence j equals one listed before it.
 fn equals_earlier(dependences: &[i64], j: usize, n: usize) -> bool
     requires { ⌜ (n ≤ maxDepth) × (j * maxDepth + n ≤ length (now dependences)) ⌝ }
-    ensures { λ r. ⌜ r ≡ any (λ d. eqV d (dependenceAt (now (dependences .entry)) n j)) (tab (dependenceAt (now (dependences .entry)) n) j) ⌝ }
+    ensures { λ r. ⌜ r ≡ any (λ d. eqV d (dependenceAt (now (dependences .entry)) n j))
+        (tab (dependenceAt (now (dependences .entry)) n) j) ⌝ }
 {
     for i in 0..j {
         if are_equal(dependences, i, j, n) {
@@ -151,10 +154,12 @@ pub fn any_equal(dependences: &[i64], n: usize, m: usize) -> bool
     false
 }
 
-// The inner product of n places of the time vector with n places of another array, from place `from` on, which are in the span of an index.
+// The inner product of n places of the time vector with n places of another array, from place
+// `from` on, which are in the span of an index.
 pub fn inner_product(time: &[i64], xs: &[i64], from: usize, n: usize) -> i64
     requires { ⌜ (n ≤ maxDepth) × (n ≤ length (now time)) × (from + n ≤ length (now xs)) ⌝ }
-    requires { ⌜ ((k : ℕ) → k < n → (natAbs (getD (now time) k (pos 0)) ≤ maxComponent) × (natAbs (getD (now xs) (from + k) (pos 0)) ≤ maxLimit)) ⌝ }
+    requires { ⌜ ((k : ℕ) → k < n → (natAbs (getD (now time) k (pos 0)) ≤ maxComponent)
+        × (natAbs (getD (now xs) (from + k) (pos 0)) ≤ maxLimit)) ⌝ }
     ensures { λ r. ⌜ r ≡ dots (part (now (time .entry)) 0 n) (part (now (xs .entry)) from n) ⌝ }
 {
     let mut sum: i64 = 0;
@@ -167,8 +172,10 @@ pub fn inner_product(time: &[i64], xs: &[i64], from: usize, n: usize) -> i64
 // Whether P·d is below 1 for one of the m dependences.
 pub fn any_against(time: &[i64], dependences: &[i64], n: usize, m: usize) -> bool
     requires { ⌜ (n ≤ maxDepth) × (n ≤ length (now time)) × (m * maxDepth ≤ length (now dependences)) ⌝ }
-    requires { ⌜ (outOfSpan (part (now time) 0 n) ≡ false) × (any outOfSpan (tab (dependenceAt (now dependences) n) m) ≡ false) ⌝ }
-    ensures { λ r. ⌜ r ≡ any (λ d. ltZ (dots (part (now (time .entry)) 0 n) d) (pos 1)) (tab (dependenceAt (now (dependences .entry)) n) m) ⌝ }
+    requires { ⌜ (outOfSpan (part (now time) 0 n) ≡ false)
+        × (any outOfSpan (tab (dependenceAt (now dependences) n) m) ≡ false) ⌝ }
+    ensures { λ r. ⌜ r ≡ any (λ d. ltZ (dots (part (now (time .entry)) 0 n) d) (pos 1))
+        (tab (dependenceAt (now (dependences .entry)) n) m) ⌝ }
 {
     for i in 0..m {
         if inner_product(time, dependences, i * LoopNest::MAX_DEPTH, n) < 1 {

@@ -1,4 +1,5 @@
-// A loop nest held as numbers (document 01: sheet), its spans, its refusals 2 to 13, and its index points.
+// A loop nest held as numbers (document 01: sheet), its spans, its refusals 2 to
+// 13, and its index points.
 mod faults;
 mod points;
 mod refusals;
@@ -33,10 +34,12 @@ pub use crate::source::source_of;
 pub use crate::source::source_rank;
 ghost use mathlib.Core.Path.{_≡_};
 ghost use lib.IntN.{pos};
-ghost use Rattle.nest.specs.Nest.{emptyNest, withShape, withLimits, withTime, withDependence, withBoundary, withWeight, toℕ, maxDepth, maxDependences, maxCube, maxLimit, maxIterations, maxComponent, maxBoundary, maxWeight};
+ghost use Rattle.nest.specs.Nest.{emptyNest, withShape, withLimits, withTime, withDependence, withBoundary};
+ghost use Rattle.nest.specs.Nest.{withWeight, toℕ, maxDepth, maxDependences, maxCube, maxLimit, maxIterations};
+ghost use Rattle.nest.specs.Nest.{maxComponent, maxBoundary, maxWeight};
 
-// A loop nest. Every field may hold any number; `check` says whether the nest is accepted. Of each array the first `depth` or `count` places are part
-// of the nest, and the others are ignored.
+// A loop nest. Every field may hold any number; `check` says whether the nest is accepted. Of each
+// array the first `depth` or `count` places are part of the nest, and the others are ignored.
 pub struct LoopNest {
     // document 01: depth n
     pub depth: i64,
@@ -74,7 +77,8 @@ impl LoopNest {
 
     pub const MAX_WEIGHT: i64 = 255;
 
-    // A nest with 0 in every place. It also says that the spans that the definitions name are the constants above.
+    // A nest with 0 in every place. It also says that the spans that the definitions name
+    // are the constants above.
     pub fn empty() -> LoopNest
         ensures { λ r. ⌜ r ≡ emptyNest ⌝ }
         ensures shape_spans { λ r. do
@@ -82,13 +86,15 @@ impl LoopNest {
           dependences ← ⟦LoopNest::MAX_DEPENDENCES⟧ .entry
           cube ← ⟦LoopNest::MAX_CUBE⟧ .entry
           iterations ← ⟦LoopNest::MAX_ITERATIONS⟧ .entry
-          ⌜ (depth ≡ maxDepth) × (dependences ≡ maxDependences) × (cube ≡ pos maxCube) × (iterations ≡ maxIterations) ⌝ }
+          ⌜ (depth ≡ maxDepth) × (dependences ≡ maxDependences) × (cube ≡ pos maxCube)
+              × (iterations ≡ maxIterations) ⌝ }
         ensures number_spans { λ r. do
           limit ← ⟦LoopNest::MAX_LIMIT⟧ .entry
           component ← ⟦LoopNest::MAX_COMPONENT⟧ .entry
           boundary ← ⟦LoopNest::MAX_BOUNDARY⟧ .entry
           weight ← ⟦LoopNest::MAX_WEIGHT⟧ .entry
-          ⌜ (limit ≡ pos maxLimit) × (component ≡ pos maxComponent) × (boundary ≡ pos maxBoundary) × (weight ≡ pos maxWeight) ⌝ }
+          ⌜ (limit ≡ pos maxLimit) × (component ≡ pos maxComponent) × (boundary ≡ pos maxBoundary)
+              × (weight ≡ pos maxWeight) ⌝ }
     {
         LoopNest {
             depth: 0,
@@ -114,7 +120,8 @@ impl LoopNest {
         s
     }
 
-    // The same nest with other limits of loop k, counted from 0 at the outermost; unchanged where there is no such place.
+    // The same nest with other limits of loop k, counted from 0 at the outermost; unchanged
+    // where there is no such place.
     pub fn with_limits(self, k: usize, lower: i64, upper: i64) -> LoopNest
         ensures { λ r. ⌜ r ≡ withLimits self k lower upper ⌝ }
     {
@@ -126,7 +133,8 @@ impl LoopNest {
         s
     }
 
-    // The same nest with another component k of the time vector; unchanged where there is no such place.
+    // The same nest with another component k of the time vector; unchanged
+    // where there is no such place.
     pub fn with_time(self, k: usize, component: i64) -> LoopNest
         ensures { λ r. ⌜ r ≡ withTime self k component ⌝ }
     {
@@ -137,7 +145,8 @@ impl LoopNest {
         s
     }
 
-    // The same nest with another component k of dependence i; unchanged where there is no such place.
+    // The same nest with another component k of dependence i; unchanged where
+    // there is no such place.
     pub fn with_dependence(self, i: usize, k: usize, component: i64) -> LoopNest
         ensures { λ r. ⌜ r ≡ withDependence self i k component ⌝ }
     {
@@ -176,7 +185,8 @@ pub fn to_size(x: i64) -> usize
     if x < 0 { 0 } else { x as usize }
 }
 
-// What is known of a nest: the number of its first refusal, 2 to 13, or 0 with the number of its iterations.
+// What is known of a nest: the number of its first refusal, 2 to 13, or 0 with the
+// number of its iterations.
 pub struct Inspection {
     pub refusal: u8,
     pub iterations: usize,

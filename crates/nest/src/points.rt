@@ -40,7 +40,8 @@ pub fn index_at(lower: i64, q: u64) -> i64
 
 // The number of index points of the n outermost loops.
 pub fn point_count(lower: &[i64], upper: &[i64], n: usize) -> u64
-    requires { ⌜ (n ≤ maxDepth) × (n ≤ length (now lower)) × (n ≤ length (now upper)) × (any crossed (tab (limitAt (now lower) (now upper)) n) ≡ false) ⌝ }
+    requires { ⌜ (n ≤ maxDepth) × (n ≤ length (now lower)) × (n ≤ length (now upper))
+        × (any crossed (tab (limitAt (now lower) (now upper)) n) ≡ false) ⌝ }
     ensures { λ r. ⌜ r ≡ pointCount (tab (limitAt (now (lower .entry)) (now (upper .entry))) n) ⌝ }
 {
     let mut total: u64 = 1;
@@ -50,15 +51,17 @@ pub fn point_count(lower: &[i64], upper: &[i64], n: usize) -> u64
     total
 }
 
-// The index point of a rank, of n loops whose limits are not crossed, with 0 in the places behind the depth. From the innermost loop outward, each index is what the
-// extent of its loop leaves of the rank; the outermost is what is left.
+// The index point of a rank, of n loops whose limits are not crossed, with 0 in the places behind
+// the depth. From the innermost loop outward, each index is what the extent of its loop leaves of
+// the rank; the outermost is what is left.
 fn point_within(
     lower: [i64; LoopNest::MAX_DEPTH],
     upper: [i64; LoopNest::MAX_DEPTH],
     n: usize,
     rank: u64,
 ) -> [i64; LoopNest::MAX_DEPTH]
-    requires { ⌜ (1 ≤ n) × (n ≤ maxDepth) × (any crossed (tab (limitAt lower upper) n) ≡ false) × (rank < pointCount (tab (limitAt lower upper) n)) ⌝ }
+    requires { ⌜ (1 ≤ n) × (n ≤ maxDepth) × (any crossed (tab (limitAt lower upper) n) ≡ false)
+        × (rank < pointCount (tab (limitAt lower upper) n)) ⌝ }
     ensures { λ r. ⌜ r ≡ padded maxDepth (getD (points (tab (limitAt lower upper) n)) rank []) ⌝ }
 {
     let mut point = [0i64; LoopNest::MAX_DEPTH];
@@ -85,7 +88,8 @@ pub fn point_of(s: LoopNest, rank: usize) -> [i64; LoopNest::MAX_DEPTH]
     point_within(lower, upper, n, rank as u64)
 }
 
-// The rank of a point, of n loops whose limits are not crossed; the number of index points where it is none of them.
+// The rank of a point, of n loops whose limits are not crossed; the number of index points
+// where it is none of them.
 fn rank_within(
     lower: [i64; LoopNest::MAX_DEPTH],
     upper: [i64; LoopNest::MAX_DEPTH],
@@ -108,7 +112,8 @@ fn rank_within(
     rank
 }
 
-// The rank of a point of an accepted nest; the number of iterations where it is none of its index points.
+// The rank of a point of an accepted nest; the number of iterations where it is
+// none of its index points.
 pub fn rank_of(s: LoopNest, point: [i64; LoopNest::MAX_DEPTH]) -> usize
     requires { ⌜ refusal s ≡ 0 ⌝ }
     ensures { λ r. ⌜ r ≡ rank (pointsOf s) (part point 0 (depthOf s)) ⌝ }

@@ -1,4 +1,5 @@
-// The refusals of a nest by their numbers (document 01, "Words from the rack"), and the first of them.
+// The refusals of a nest by their numbers (document 01, "Words from the
+// rack"), and the first of them.
 use crate::Inspection;
 use crate::LoopNest;
 use crate::faults::any_against;
@@ -17,7 +18,8 @@ ghost use lib.IntN.{pos};
 ghost use mathlib.Core.List.{[]};
 ghost use lib.ListN.{length};
 ghost use Rattle.nest.specs.Nest.{nestFrom, Sized, maxDepth};
-ghost use Rattle.nest.specs.Refusals.{refusal, firstMet, headerOrder, limitOrder, vectorOrder, weightOrder, noRoom, Checks, Inspects};
+ghost use Rattle.nest.specs.Refusals.{refusal, firstMet, headerOrder, limitOrder, vectorOrder, weightOrder};
+ghost use Rattle.nest.specs.Refusals.{noRoom, Checks, Inspects};
 
 // no such depth: n out of span
 pub const BAD_DEPTH: u8 = 2;
@@ -65,7 +67,8 @@ pub fn check_header(depth: i64, count: i64, cube: i64) -> u8
 // The refusals 5 and 6, of n loops: the number of the first, or 0.
 fn check_limits(lower: &[i64], upper: &[i64], n: usize) -> u8
     requires { ⌜ (n ≤ maxDepth) × (n ≤ length (now lower)) × (n ≤ length (now upper)) ⌝ }
-    ensures { λ r. ⌜ r ≡ firstMet (nestFrom (pos n) (pos 0) (pos 0) (now (lower .entry)) (now (upper .entry)) [] [] (pos 0) []) limitOrder ⌝ }
+    ensures { λ r. ⌜ r ≡ firstMet
+        (nestFrom (pos n) (pos 0) (pos 0) (now (lower .entry)) (now (upper .entry)) [] [] (pos 0) []) limitOrder ⌝ }
 {
     if any_crossed(lower, upper, n) {
         return BAD_LIMITS;
@@ -79,7 +82,9 @@ fn check_limits(lower: &[i64], upper: &[i64], n: usize) -> u8
 // The refusals 7 to 12, of n loops and m dependences: the number of the first, or 0.
 fn check_vectors(time: &[i64], dependences: &[i64], n: usize, m: usize) -> u8
     requires { ⌜ (n ≤ maxDepth) × (n ≤ length (now time)) × (m * maxDepth ≤ length (now dependences)) ⌝ }
-    ensures { λ r. ⌜ r ≡ firstMet (nestFrom (pos n) (pos m) (pos 0) [] [] (now (time .entry)) (now (dependences .entry)) (pos 0) []) vectorOrder ⌝ }
+    ensures { λ r. ⌜ r ≡ firstMet
+        (nestFrom (pos n) (pos m) (pos 0) [] [] (now (time .entry)) (now (dependences .entry))
+        (pos 0) []) vectorOrder ⌝ }
 {
     if any_outside(
         time,
@@ -111,7 +116,8 @@ fn check_vectors(time: &[i64], dependences: &[i64], n: usize, m: usize) -> u8
 // The refusal 13, of m dependences, or 0.
 fn check_weights(boundary: i64, weights: &[i64], m: usize) -> u8
     requires { ⌜ m ≤ length (now weights) ⌝ }
-    ensures { λ r. ⌜ r ≡ firstMet (nestFrom (pos 0) (pos m) (pos 0) [] [] [] [] boundary (now (weights .entry))) weightOrder ⌝ }
+    ensures { λ r. ⌜ r ≡ firstMet
+        (nestFrom (pos 0) (pos m) (pos 0) [] [] [] [] boundary (now (weights .entry))) weightOrder ⌝ }
 {
     if is_outside(0, LoopNest::MAX_BOUNDARY, boundary) {
         return BAD_WEIGHT;
@@ -135,7 +141,9 @@ fn check_parts<'a>(
     weights: &'a [i64],
 ) -> u8
     requires { ⌜ Sized (now lower) (now upper) (now time) (now dependences) (now weights) ⌝ }
-    ensures { λ r. ⌜ r ≡ refusal (nestFrom depth count cube (now (lower .entry)) (now (upper .entry)) (now (time .entry)) (now (dependences .entry)) boundary (now (weights .entry))) ⌝ }
+    ensures { λ r. ⌜ r ≡ refusal
+        (nestFrom depth count cube (now (lower .entry)) (now (upper .entry)) (now (time .entry))
+        (now (dependences .entry)) boundary (now (weights .entry))) ⌝ }
 {
     let header = check_header(depth, count, cube);
     if header != 0 {
@@ -154,7 +162,8 @@ fn check_parts<'a>(
     check_weights(boundary, weights, m)
 }
 
-// The number of the first refusal, 2 to 13 in the document's order, of a nest with any content; 0 where it is accepted.
+// The number of the first refusal, 2 to 13 in the document's order, of a nest with any
+// content; 0 where it is accepted.
 pub fn check(s: LoopNest) -> u8
     ensures { λ r. ⌜ Checks s r ⌝ }
 {
@@ -185,7 +194,9 @@ pub fn inspect_parts<'a>(
     weights: &'a [i64],
 ) -> Inspection
     requires { ⌜ Sized (now lower) (now upper) (now time) (now dependences) (now weights) ⌝ }
-    ensures { λ r. ⌜ Inspects (nestFrom depth count cube (now (lower .entry)) (now (upper .entry)) (now (time .entry)) (now (dependences .entry)) boundary (now (weights .entry))) r ⌝ }
+    ensures { λ r. ⌜ Inspects
+        (nestFrom depth count cube (now (lower .entry)) (now (upper .entry)) (now (time .entry))
+        (now (dependences .entry)) boundary (now (weights .entry))) r ⌝ }
 {
     let refusal = check_parts(
         depth,

@@ -13,11 +13,13 @@ ghost use lib.IntN.{pos, natAbs};
 ghost use mathlib.Core.List.{[]};
 ghost use lib.ListN.{length, getD};
 ghost use Rattle.integers.specs.Lists.{any, tab};
-ghost use Rattle.nest.specs.Nest.{padded, part, depthOf, countOf, limitAt, dependenceAt, maxDepth, maxLimit, maxIterations, maxComponent};
+ghost use Rattle.nest.specs.Nest.{padded, part, depthOf, countOf, limitAt, dependenceAt, maxDepth, maxLimit};
+ghost use Rattle.nest.specs.Nest.{maxIterations, maxComponent};
 ghost use Rattle.nest.specs.Points.{points, pointsOf, pointCount, rank, isPoint, source};
 ghost use Rattle.nest.specs.Refusals.{crossed, refusal, dependence};
 
-// A point less dependence i, of n components, with 0 in the places behind the depth; both are in span.
+// A point less dependence i, of n components, with 0 in the places behind the
+// depth; both are in span.
 fn difference(
     point: [i64; LoopNest::MAX_DEPTH],
     dependences: &[i64],
@@ -25,7 +27,8 @@ fn difference(
     n: usize,
 ) -> [i64; LoopNest::MAX_DEPTH]
     requires { ⌜ (n ≤ maxDepth) × (i * maxDepth + n ≤ length (now dependences)) ⌝ }
-    requires { ⌜ ((k : ℕ) → k < n → (natAbs (getD point k (pos 0)) ≤ maxLimit) × (natAbs (getD (now dependences) (i * maxDepth + k) (pos 0)) ≤ maxComponent)) ⌝ }
+    requires { ⌜ ((k : ℕ) → k < n → (natAbs (getD point k (pos 0)) ≤ maxLimit)
+        × (natAbs (getD (now dependences) (i * maxDepth + k) (pos 0)) ≤ maxComponent)) ⌝ }
     ensures { λ r. ⌜ r ≡ padded maxDepth (source (part point 0 n) (dependenceAt (now (dependences .entry)) n i)) ⌝ }
 {
     let mut source = [0i64; LoopNest::MAX_DEPTH];
@@ -35,7 +38,8 @@ fn difference(
     source
 }
 
-// The source of an index point of an accepted nest along dependence i, with 0 in the places behind the depth.
+// The source of an index point of an accepted nest along dependence i, with 0 in the
+// places behind the depth.
 pub fn source_of(
     s: LoopNest,
     point: [i64; LoopNest::MAX_DEPTH],
@@ -48,7 +52,8 @@ pub fn source_of(
     difference(point, &s.dependences, i, n)
 }
 
-// The rank of the source of an index point along dependence i; the number of iterations where the source is none of them.
+// The rank of the source of an index point along dependence i; the number of iterations where
+// the source is none of them.
 pub fn source_at(s: LoopNest, point: [i64; LoopNest::MAX_DEPTH], i: usize) -> usize
     requires { ⌜ (refusal s ≡ 0) × (isPoint (pointsOf s) (part point 0 (depthOf s)) ≡ true) × (i < countOf s) ⌝ }
     ensures { λ r. ⌜ r ≡ rank (pointsOf s) (source (part point 0 (depthOf s)) (dependence s i)) ⌝ }
@@ -57,8 +62,9 @@ pub fn source_at(s: LoopNest, point: [i64; LoopNest::MAX_DEPTH], i: usize) -> us
     rank_of(s, source)
 }
 
-// The rank of the source of an iteration along dependence i, of n loops that have so many index points in all; their number where the source is none of them. From the
-// innermost loop outward, each index is what the extent of its loop leaves of the iteration's rank.
+// The rank of the source of an iteration along dependence i, of n loops that have so many index
+// points in all; their number where the source is none of them. From the innermost loop outward,
+// each index is what the extent of its loop leaves of the iteration's rank.
 pub fn source_rank<'a>(
     lower: &'a [i64],
     upper: &'a [i64],
@@ -68,11 +74,15 @@ pub fn source_rank<'a>(
     iteration: usize,
     i: usize,
 ) -> usize
-    requires { ⌜ (n ≤ maxDepth) × (n ≤ length (now lower)) × (n ≤ length (now upper)) × (i * maxDepth + n ≤ length (now dependences)) ⌝ }
-    requires { ⌜ (any crossed (tab (limitAt (now lower) (now upper)) n) ≡ false) × (total ≡ pointCount (tab (limitAt (now lower) (now upper)) n)) × (total ≤ maxIterations) × (iteration < total) ⌝ }
+    requires { ⌜ (n ≤ maxDepth) × (n ≤ length (now lower)) × (n ≤ length (now upper))
+        × (i * maxDepth + n ≤ length (now dependences)) ⌝ }
+    requires { ⌜ (any crossed (tab (limitAt (now lower) (now upper)) n) ≡ false)
+        × (total ≡ pointCount (tab (limitAt (now lower) (now upper)) n)) × (total ≤ maxIterations)
+        × (iteration < total) ⌝ }
     requires { ⌜ ((k : ℕ) → k < n → natAbs (getD (now dependences) (i * maxDepth + k) (pos 0)) ≤ maxComponent) ⌝ }
     ensures { λ r. ⌜ r ≡ rank (points (tab (limitAt (now (lower .entry)) (now (upper .entry))) n))
-        (source (getD (points (tab (limitAt (now (lower .entry)) (now (upper .entry))) n)) iteration []) (dependenceAt (now (dependences .entry)) n i)) ⌝ }
+        (source (getD (points (tab (limitAt (now (lower .entry)) (now (upper .entry))) n)) iteration [])
+        (dependenceAt (now (dependences .entry)) n i)) ⌝ }
 {
     let mut rest = iteration as u64;
     let mut stride: u64 = 1;

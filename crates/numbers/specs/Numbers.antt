@@ -1,4 +1,5 @@
--- A nest, where a row lies, a move and what it did as numbers in a row, for callers in other languages. Assumes nothing.
+-- A nest, where a row lies, a move and what it did as numbers in a row, for callers in other
+-- languages. Assumes nothing.
 use mathlib.Core.Path.{_≡_}
 use mathlib.Core.Bool.{true, false}
 use mathlib.Core.List.{List, [], _∷_, _++_}
@@ -21,7 +22,8 @@ use Rattle.execution.specs.declared.Move.the-variants.{Compute, Deliver}
 use Rattle.execution.specs.declared.Answer.{Answer}
 use Rattle.execution.specs.declared.Answer.the-variants.{Computed, Delivered, Refused}
 
--- where the parts of a nest begin among its numbers, behind the depth, the number of dependences and the cube dimension
+-- where the parts of a nest begin among its numbers, behind the depth, the number of
+-- dependences and the cube dimension
 abbrev pub upperFrom : ℕ
 upperFrom = 3 + maxDepth
 
@@ -48,14 +50,16 @@ nestIn xs = record {
   weights = part xs (boundaryAt + 1) maxDependences;
 }
 
--- the numbers of a nest, in the same order: every place of its arrays, those that are no part of the nest too
+-- the numbers of a nest, in the same order: every place of its arrays, those that
+-- are no part of the nest too
 unfoldable pub numbersOf : LoopNest → List ℤ
 numbersOf s =
     (s .depth ∷ s .count ∷ s .cube ∷ [])
     ++ part (s .lower) 0 maxDepth ++ part (s .upper) 0 maxDepth ++ part (s .time) 0 maxDepth
     ++ part (s .dependences) 0 (maxDepth * maxDependences) ++ (s .boundary ∷ part (s .weights) 0 maxDependences)
 
--- the kinds of a move, numbered as in the machine's log (document 02, U12): 1 is a compute, 2 a delivery
+-- the kinds of a move, numbered as in the machine's log (document 02, U12): 1
+-- is a compute, 2 a delivery
 abbrev pub computeKind : ℕ
 computeKind = 1
 
@@ -66,16 +70,20 @@ deliverKind = 2
 abbrev pub noProcessor : ℕ
 noProcessor = 2 ^ maxCube
 
--- the move that is asked for: a compute on a processor, or a delivery for a rank along a dependence; any other kind is a
--- compute on a processor that is not there
+-- the move that is asked for: a compute on a processor, or a delivery for a rank along a
+-- dependence; any other kind is a compute on a processor that is not there
 unfoldable pub moveIn : ℕ → ℕ → ℕ → Move
 moveIn kind a b =
     elim (eqb kind computeKind) [
       | true ↦ Compute a
-      | false ↦ elim (eqb kind deliverKind) [ true ↦ Deliver (record { rank = a; dependence = b }) | false ↦ Compute noProcessor ]
+      | false ↦ elim (eqb kind deliverKind) [
+        | true ↦ Deliver (record { rank = a; dependence = b })
+        | false ↦ Compute noProcessor
+      ]
     ]
 
--- what an answer carries: the rank and the value of an iteration that was computed, the rank and the dependence number of a message that was delivered; zeros where refused
+-- what an answer carries: the rank and the value of an iteration that was computed, the rank and
+-- the dependence number of a message that was delivered; zeros where refused
 unfoldable pub madeIn : Answer → List ℕ
 madeIn (Computed c) = c .rank ∷ c .value ∷ []
 madeIn (Delivered d) = d .rank ∷ d .dependence ∷ []
@@ -87,7 +95,8 @@ madeIn (Refused number) = 0 ∷ 0 ∷ []
 abbrev pub spanFrom : ℕ → List ℕ → Span
 spanFrom number span = record { refusal = number; start = getD span 0 0; length = getD span 1 0 }
 
--- what `plan` answers: the number, and the counts of iterations, steps, blocks, processors that hold an iteration, and messages
+-- what `plan` answers: the number, and the counts of iterations, steps, blocks, processors that
+-- hold an iteration, and messages
 abbrev pub planningFrom : ℕ → List ℕ → Planning
 planningFrom number counts = record {
   refusal = number;
@@ -119,8 +128,8 @@ pub record Asked : Type 0 where
 abbrev pub askedMove : Asked → Move
 askedMove a = moveIn (a .kind) (a .first) (a .second)
 
--- a list of calls of `rowlock_move`, each with the same nest and tables and with the state as the call before left it:
--- what was asked for, the numbers answered, and what was done
+-- a list of calls of `rowlock_move`, each with the same nest and tables and with the state as the
+-- call before left it: what was asked for, the numbers answered, and what was done
 pub data NumberCalls (s : LoopNest) (L : rules.Layout)
     : State ℕ → List Asked → List ℕ → List (List ℕ) → State ℕ → Type 0 where
   none-asked : {st : State ℕ} → NumberCalls s L st [] [] [] st

@@ -1,4 +1,5 @@
-// What is lent and answered as numbers in a row, for callers in other languages: a nest, a move and what it did.
+// What is lent and answered as numbers in a row, for callers in other languages: a
+// nest, a move and what it did.
 mod moves;
 mod nests;
 

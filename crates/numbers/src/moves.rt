@@ -27,7 +27,8 @@ pub const DELIVER: usize = 2;
 // A processor that no machine has: the number behind the last of the largest hypercube.
 const NO_PROCESSOR: usize = 1 << LoopNest::MAX_CUBE;
 
-// The move that numbers ask for: a kind that is neither asks for a compute on a processor that is not there, which is refused with 18.
+// The move that numbers ask for: a kind that is neither asks for a compute on a processor that is
+// not there, which is refused with 18.
 pub fn move_in(kind: usize, first: usize, second: usize) -> Move
     ensures { λ r. ⌜ r ≡ moveIn kind first second ⌝ }
 {
@@ -77,7 +78,8 @@ fn deliver_in(
 ) -> Answer
     requires { ⌜ (refusal (nestIn (now numbers)) ≡ 0) × (n ≡ length (pointsOf (nestIn (now numbers)))) ⌝ }
     requires { ⌜ (n ≤ length (now processors)) × (n ≤ length (now done)) × (n ≤ length (now delivered)) ⌝ }
-    ensures { λ r. ⌜ Delivers (nestIn (now (numbers .entry))) (now (processors .entry)) (now (done .entry)) (now (delivered .entry)) k i r (now (delivered .exit)) ⌝ }
+    ensures { λ r. ⌜ Delivers (nestIn (now (numbers .entry))) (now (processors .entry)) (now (done .entry))
+        (now (delivered .entry)) k i r (now (delivered .exit)) ⌝ }
 {
     if n <= k {
         return Answer::Refused(NO_SUCH_PLACE);
@@ -89,7 +91,8 @@ fn deliver_in(
     execution::deliver_from(j, n, k, i, processors, done, delivered)
 }
 
-// The move that is asked for, of the accepted nest of n iterations that 45 numbers are, which is copied for a compute alone.
+// The move that is asked for, of the accepted nest of n iterations that 45 numbers are, which is
+// copied for a compute alone.
 fn move_on(
     numbers: &[i64; NUMBERS],
     n: usize,
@@ -101,9 +104,18 @@ fn move_on(
     delivered: &mut [u8],
 ) -> Answer
     requires { ⌜ (refusal (nestIn (now numbers)) ≡ 0) × (n ≡ length (pointsOf (nestIn (now numbers)))) ⌝ }
-    requires { ⌜ (n ≤ length (now steps)) × (n ≤ length (now processors)) × (n ≤ length (now values)) × (n ≤ length (now done)) × (n ≤ length (now delivered)) ⌝ }
-    ensures { λ r. ⌜ r ≡ answerOf (nestIn (now (numbers .entry))) (now (values .entry)) (effect (nestIn (now (numbers .entry))) (viewIn (now (steps .entry)) (now (processors .entry)) (now (done .entry)) (now (delivered .entry))) (moveOf what)) ⌝ }
-    ensures { λ r. ⌜ stateIn (now (values .exit)) (now (done .exit)) (now (delivered .exit)) ≡ after (ruleOf (nestIn (now (numbers .entry)))) (nestIn (now (numbers .entry))) (stateIn (now (values .entry)) (now (done .entry)) (now (delivered .entry))) (effect (nestIn (now (numbers .entry))) (viewIn (now (steps .entry)) (now (processors .entry)) (now (done .entry)) (now (delivered .entry))) (moveOf what)) ⌝ }
+    requires { ⌜ (n ≤ length (now steps)) × (n ≤ length (now processors)) × (n ≤ length (now values))
+        × (n ≤ length (now done)) × (n ≤ length (now delivered)) ⌝ }
+    ensures { λ r. ⌜ r ≡ answerOf (nestIn (now (numbers .entry))) (now (values .entry))
+        (effect (nestIn (now (numbers .entry)))
+        (viewIn (now (steps .entry)) (now (processors .entry)) (now (done .entry)) (now (delivered .entry)))
+        (moveOf what)) ⌝ }
+    ensures { λ r. ⌜ stateIn (now (values .exit)) (now (done .exit)) (now (delivered .exit))
+        ≡ after (ruleOf (nestIn (now (numbers .entry)))) (nestIn (now (numbers .entry)))
+        (stateIn (now (values .entry)) (now (done .entry)) (now (delivered .entry)))
+        (effect (nestIn (now (numbers .entry)))
+        (viewIn (now (steps .entry)) (now (processors .entry)) (now (done .entry)) (now (delivered .entry)))
+        (moveOf what)) ⌝ }
 {
     match what {
         Move::Compute(p) => {

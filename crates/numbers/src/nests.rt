@@ -14,7 +14,8 @@ ghost use Rattle.nest.specs.Sources.{IsSource};
 // How many numbers its dependences have.
 const COMPONENTS: usize = LoopNest::MAX_DEPTH * LoopNest::MAX_DEPENDENCES;
 
-// Where the parts of a nest begin; the depth, the number of dependences and the cube dimension stand before them.
+// Where the parts of a nest begin; the depth, the number of dependences and the cube
+// dimension stand before them.
 const LOWER: usize = 3;
 
 const UPPER: usize = LOWER + LoopNest::MAX_DEPTH;
@@ -30,7 +31,8 @@ const WEIGHTS: usize = BOUNDARY + 1;
 // How many numbers a nest has.
 pub const NUMBERS: usize = WEIGHTS + LoopNest::MAX_DEPENDENCES;
 
-// Copies n numbers, from place `from` of one array on, to place `at` of another and those behind it.
+// Copies n numbers, from place `from` of one array on, to place `at` of
+// another and those behind it.
 fn copy(out: &mut [i64], at: usize, numbers: &[i64], from: usize, n: usize)
     requires { ⌜ (at + n ≤ length (now out)) × (from + n ≤ length (now numbers)) ⌝ }
     ensures { λ _. ⌜ now (out .exit) ≡ sets (now (out .entry)) at (part (now (numbers .entry)) from n) ⌝ }
@@ -85,10 +87,12 @@ pub fn inspect_in(numbers: &[i64]) -> Inspection
     )
 }
 
-// The rank of the source of iteration k along dependence i, of the accepted nest of n iterations that 45 numbers are; n where the source is none of them.
+// The rank of the source of iteration k along dependence i, of the accepted nest of n iterations
+// that 45 numbers are; n where the source is none of them.
 pub fn source_in(numbers: &[i64], n: usize, k: usize, i: usize) -> usize
     requires { ⌜ length (now numbers) ≡ boundaryAt + 1 + maxDependences ⌝ }
-    requires { ⌜ (refusal (nestIn (now numbers)) ≡ 0) × (n ≡ length (pointsOf (nestIn (now numbers)))) × (k < n) × (i < countOf (nestIn (now numbers))) ⌝ }
+    requires { ⌜ (refusal (nestIn (now numbers)) ≡ 0) × (n ≡ length (pointsOf (nestIn (now numbers)))) × (k < n)
+        × (i < countOf (nestIn (now numbers))) ⌝ }
     ensures { λ r. ⌜ IsSource (nestIn (now (numbers .entry))) k i r ⌝ }
 {
     let depth = nest::to_size(numbers[0]);

@@ -1,6 +1,7 @@
--- The examples P1 to P10 of document 01 ("Mixes to try"), the counts of 000's loops L1 and L2, and two nests worked out by hand, as one table; `examples-hold`
--- checks all of it on the definitions, by computation. Where a case is silent: limits 0..3, time vector of ones, cube dimension 0, boundary value and weights
--- 1, and the dependence is 1 in the innermost loop.
+-- The examples P1 to P10 of document 01 ("Mixes to try"), the counts of 000's loops L1 and L2, and
+-- two nests worked out by hand, as one table; `examples-hold` checks all of it on the definitions,
+-- by computation. Where a case is silent: limits 0..3, time vector of ones, cube dimension 0,
+-- boundary value and weights 1, and the dependence is 1 in the innermost loop.
 -- Assumes nothing.
 use mathlib.Core.Path.{_≡_, refl}
 use mathlib.Core.Bool.{Bool, true, false, _&&_}
@@ -18,16 +19,24 @@ use Rattle.nest.specs.Nest.{toℕ, part, limitsOf, timeOf, dependencesOf, weigh
 use Rattle.nest.specs.Points.{extent, indices, points, pointsOf, pointCount, rank, isPoint, source}
 use Rattle.nest.specs.Refusals.{number, outside, crossed, outOfSpan, backward, holds, firstMet, refusal, orElse}
 use Rattle.nest.specs.Sources.{sourceRank}
-use Rattle.nest_text.specs.Fields.{Bytes, blanksOf, allDigits, valueOf, digitsOf, signedOf, readOf, digitsTo, numeralOf, fieldOf}
-use Rattle.nest_text.specs.Text.{line, linesOf, textOf, isLine, numbersOf, areLines, lineNumbers, widths, shapes, fits, firstFitting}
-use Rattle.nest_text.specs.Text.{isHeaded, headerWidthOf, headerNumbers, headed, headerOf, restOf, isShaped, bodyNumbers, nestFrom, bodyOf, readRefusal, readNest}
+use Rattle.nest_text.specs.Fields.{Bytes, blanksOf, allDigits, valueOf, digitsOf, signedOf, readOf, digitsTo, numeralOf}
+use Rattle.nest_text.specs.Fields.{fieldOf}
+use Rattle.nest_text.specs.Text.{line, linesOf, textOf, isLine, numbersOf, areLines, lineNumbers, widths, shapes, fits}
+use Rattle.nest_text.specs.Text.{firstFitting, isHeaded, headerWidthOf, headerNumbers, headed, headerOf, restOf}
+use Rattle.nest_text.specs.Text.{isShaped, bodyNumbers, nestFrom, bodyOf, readRefusal, readNest}
 use Rattle.nest_text.specs.Examples.{bytes, lines}
 use Rattle.grouping.specs.Projection.{projection, divides, makesWhole, multiplier, groupSize}
 use Rattle.integers.specs.Extremes.{leastZ, greatestZ}
 use Rattle.partition.specs.Partition.{step, stepsOf, stepCount, frameOf, groupsOf, blocksOf, blockCount}
-use Rattle.grouping.specs.Grouping.{pivot, clear, remainder, mayGroup, groupingVector, extend, chosenVectors, chosenCount, latest, coefficients, left, isCombination, frame, directions, difference, sameClass, coordinates, seeds, eqG, quotients, classNumber, group, blocks, blockNumber}
-use Rattle.mapping.specs.Mapping.{inOrder, direction, undealt, takesBit, withBit, noDirection, nextTurn, dealBit, dealBits, dealt, gray, partOf, joined, processor, directionsOf, processorsOf, processorCount, crosses, isMessage, total, messageCount}
-use Rattle.sequential.specs.Sequential.{sourceValue, valueOf as madeOf, loop, sequential, sum, weightedSum, ruleOf, valuesOf}
+use Rattle.grouping.specs.Grouping.{pivot, clear, remainder, mayGroup, groupingVector, extend, chosenVectors}
+use Rattle.grouping.specs.Grouping.{chosenCount, latest, coefficients, left, isCombination, frame, directions}
+use Rattle.grouping.specs.Grouping.{difference, sameClass, coordinates, seeds, eqG, quotients, classNumber, group}
+use Rattle.grouping.specs.Grouping.{blocks, blockNumber}
+use Rattle.mapping.specs.Mapping.{inOrder, direction, undealt, takesBit, withBit, noDirection, nextTurn, dealBit}
+use Rattle.mapping.specs.Mapping.{dealBits, dealt, gray, partOf, joined, processor, directionsOf, processorsOf}
+use Rattle.mapping.specs.Mapping.{processorCount, crosses, isMessage, total, messageCount}
+use Rattle.sequential.specs.Sequential.{sourceValue, valueOf as madeOf, loop, sequential, sum, weightedSum, ruleOf}
+use Rattle.sequential.specs.Sequential.{valuesOf}
 use Rattle.planner.specs.Plan.{countsOf}
 use Rattle.planner.specs.Rows.{rowOf}
 use Rattle.planner.specs.Listing.{planLines, planText, listing}
@@ -79,7 +88,8 @@ says s (blockSizes ks) = let t = blocksOf s in eqN (map (λ b. count (eqb b) t) 
 says s (blocksAre k) = eqb (blockCount s) k
 says s (iterationBlocks ks) = eqN (blocksOf s) ks
 says s (dependencesAre k b) = let t = blocksOf s in eqb (pairs s (λ r j. isSome j)) k && eqb (pairs s (crosses t)) b
-says s (blockProcessors ks) = let t = blocksOf s in let p = processorsOf s in eqN (map (λ b. getD p (place (eqb b) t) 0) (below (blockCount s))) ks
+says s (blockProcessors ks) = let t = blocksOf s in let p = processorsOf s in
+    eqN (map (λ b. getD p (place (eqb b) t) 0) (below (blockCount s))) ks
 says s (messagesAre k) = eqb (messageCount s) k
 says s (groupSizeIs k) = eqb (groupSize (timeOf s) (dependencesOf s)) k
 says s (groupingVectorIs v) = eqV (getD (groupingVector (timeOf s) (dependencesOf s)) 0 []) v
@@ -98,15 +108,18 @@ vector = map pos
 
 -- 0..u for each upper limit u; boundary value and weights 1
 unfoldable pub nestWith : List ℕ → Vector → List Vector → ℕ → LoopNest
-nestWith us P ds c = nestOf (pos c) (map (λ u. record { lower = pos 0; upper = pos u }) us) P ds (pos 1) (map (λ d. pos 1) ds)
+nestWith us P ds c = nestOf (pos c) (map (λ u. record { lower = pos 0; upper = pos u }) us) P ds (pos 1)
+    (map (λ d. pos 1) ds)
 
 -- 000's loop L1
 unfoldable pub L1 : ℕ → LoopNest
-L1 c = nestWith (3 ∷ 3 ∷ []) (vector (1 ∷ 1 ∷ [])) (vector (0 ∷ 1 ∷ []) ∷ vector (1 ∷ 1 ∷ []) ∷ vector (1 ∷ 0 ∷ []) ∷ []) c
+L1 c = nestWith (3 ∷ 3 ∷ []) (vector (1 ∷ 1 ∷ []))
+    (vector (0 ∷ 1 ∷ []) ∷ vector (1 ∷ 1 ∷ []) ∷ vector (1 ∷ 0 ∷ []) ∷ []) c
 
 -- 000's loop L2, whose second loop goes from 0 to u
 unfoldable pub L2 : ℕ → LoopNest
-L2 u = nestWith (3 ∷ u ∷ 3 ∷ []) (vector (1 ∷ 1 ∷ 1 ∷ [])) (vector (0 ∷ 1 ∷ 0 ∷ []) ∷ vector (1 ∷ 0 ∷ 0 ∷ []) ∷ vector (0 ∷ 0 ∷ 1 ∷ []) ∷ []) 0
+L2 u = nestWith (3 ∷ u ∷ 3 ∷ []) (vector (1 ∷ 1 ∷ 1 ∷ []))
+    (vector (0 ∷ 1 ∷ 0 ∷ []) ∷ vector (1 ∷ 0 ∷ 0 ∷ []) ∷ vector (0 ∷ 0 ∷ 1 ∷ []) ∷ []) 0
 
 -- one dependence, in two loops of u + 1 and v + 1 indices
 unfoldable pub two : ℕ → ℕ → Vector → Vector → LoopNest
@@ -115,31 +128,41 @@ two u v P d = nestWith (u ∷ v ∷ []) P (d ∷ []) 0
 unfoldable pub one : ℕ → LoopNest
 one u = nestWith (u ∷ []) (vector (1 ∷ [])) (vector (1 ∷ []) ∷ []) 0
 
--- β = 0. The time vector is (1,0), so s is 1 and the projection of (x,y) is (0,y). That of the only dependence, (1,0), is zero: there is no grouping vector,
--- r is 1, and each of the projected points (0,0), (0,1), (0,2), (0,3) is a class, a group and a block of its own. Block y holds (0,y) to (3,y), and each of the
--- 12 sources is in its iteration's block. Widths of q, b and class: 1, 1, 4. Both bits go to the class, whose parts 0, 1, 2, 3 have the Gray codes 0, 1, 3, 2.
+-- β = 0. The time vector is (1,0), so s is 1 and the projection of (x,y) is (0,y). That of the only
+-- dependence, (1,0), is zero: there is no grouping vector, r is 1, and each of the projected points
+-- (0,0), (0,1), (0,2), (0,3) is a class, a group and a block of its own. Block y holds (0,y) to
+-- (3,y), and each of the 12 sources is in its iteration's block. Widths of q, b and class: 1, 1, 4.
+-- Both bits go to the class, whose parts 0, 1, 2, 3 have the Gray codes 0, 1, 3, 2.
 unfoldable pub ungrouped : LoopNest
 ungrouped = nestWith (3 ∷ 3 ∷ []) (vector (1 ∷ 0 ∷ [])) (vector (1 ∷ 0 ∷ []) ∷ []) 2
 
--- Widths 3, 5 and 2. The time vector is (1,0,0), so s is 1 and the projection of (a,x,y) is (0,x,y). Those of the dependences, (0,-2,0) and (0,0,1), are whole:
--- r is 1, the first is the grouping vector, the second the auxiliary one. Points are in one class if their x differ by an even number; seeds (0,0,0), (0,1,0).
--- With x = 2z + w, z from 0 to 2 and w from 0 to 1, the group is class w, q = -z, b = y. No two projected points have one group, so (0,x,y) is in block 5x + y.
--- Widths: q 3 (from -2 to 0), b 5, class 2. Bits go to q, b, class, b; then none can take one (4 > 3, 8 > 5, 4 > 2), and the fifth is left.
--- Parts of q, (q + 2) × 2 / 3, are 0, 0, 1 for q = -2, -1, 0; parts of b, y × 4 / 5, are 0, 0, 1, 2, 3 with the codes 0, 0, 1, 3, 2; of the class 0, 1.
--- Joined: 8 × code of q + 2 × code of b + class. So x = 0 has 8 + 2 × code of b, x = 2 and x = 4 have 2 × code of b, and x = 1, 3, 5 have one more each.
--- Sources: along (1,-2,0) of (1,x,y) with x from 0 to 3, 4 × 5; along (1,0,1) of (1,x,y) with y from 1 to 4, 6 × 4; all in other blocks. On other processors:
--- along the first for x = 0 and x = 1 (q = 0, its source's -1), 2 × 5; along the second for y = 2, 3, 4 (0 and 1 have one code), 6 × 3.
+-- Widths 3, 5 and 2. The time vector is (1,0,0), so s is 1 and the projection of (a,x,y) is
+-- (0,x,y). Those of the dependences, (0,-2,0) and (0,0,1), are whole: r is 1, the first is the
+-- grouping vector, the second the auxiliary one. Points are in one class if their x differ by an
+-- even number; seeds (0,0,0), (0,1,0). With x = 2z + w, z from 0 to 2 and w from 0 to 1, the group
+-- is class w, q = -z, b = y. No two projected points have one group, so (0,x,y) is in block 5x + y.
+-- Widths: q 3 (from -2 to 0), b 5, class 2. Bits go to q, b, class, b; then none can take one (4 >
+-- 3, 8 > 5, 4 > 2), and the fifth is left. Parts of q, (q + 2) × 2 / 3, are 0, 0, 1 for q = -2, -1,
+-- 0; parts of b, y × 4 / 5, are 0, 0, 1, 2, 3 with the codes 0, 0, 1, 3, 2; of the class 0, 1.
+-- Joined: 8 × code of q + 2 × code of b + class. So x = 0 has 8 + 2 × code of b, x = 2 and x = 4
+-- have 2 × code of b, and x = 1, 3, 5 have one more each. Sources: along (1,-2,0) of (1,x,y) with x
+-- from 0 to 3, 4 × 5; along (1,0,1) of (1,x,y) with y from 1 to 4, 6 × 4; all in other blocks. On
+-- other processors: along the first for x = 0 and x = 1 (q = 0, its source's -1), 2 × 5; along the
+-- second for y = 2, 3, 4 (0 and 1 have one code), 6 × 3.
 unfoldable pub uneven : LoopNest
-uneven = nestWith (1 ∷ 5 ∷ 4 ∷ []) (vector (1 ∷ 0 ∷ 0 ∷ [])) ((pos 1 ∷ negℤ (pos 2) ∷ pos 0 ∷ []) ∷ vector (1 ∷ 0 ∷ 1 ∷ []) ∷ []) 5
+uneven = nestWith (1 ∷ 5 ∷ 4 ∷ []) (vector (1 ∷ 0 ∷ 0 ∷ []))
+    ((pos 1 ∷ negℤ (pos 2) ∷ pos 0 ∷ []) ∷ vector (1 ∷ 0 ∷ 1 ∷ []) ∷ []) 5
 
 -- document 01's listing in full
 unfoldable pub listed : LoopNest
 listed =
-    nestOf (pos 1) (record { lower = pos 0; upper = pos 1 } ∷ record { lower = pos 0; upper = pos 2 } ∷ []) (vector (1 ∷ 1 ∷ []))
+    nestOf (pos 1) (record { lower = pos 0; upper = pos 1 } ∷ record { lower = pos 0; upper = pos 2 } ∷ [])
+    (vector (1 ∷ 1 ∷ []))
     (vector (0 ∷ 1 ∷ []) ∷ vector (1 ∷ 0 ∷ []) ∷ []) (pos 1) (vector (2 ∷ 3 ∷ []))
 
 unfoldable pub listedText : Bytes
-listedText = lines ("     2     2     1" ∷ "     0     1" ∷ "     0     2" ∷ "     1     1" ∷ "     0     1" ∷ "     1     0" ∷ "     1     2     3" ∷ [])
+listedText = lines ("     2     2     1" ∷ "     0     1" ∷ "     0     2" ∷ "     1     1" ∷ "     0     1"
+    ∷ "     1     0" ∷ "     1     2     3" ∷ [])
 
 unfoldable pub listedPlan : Bytes
 listedPlan =
@@ -161,12 +184,22 @@ table =
     -- P2
     ∷ record { nest = listed; facts = answer 0 ∷ printed listedText listedPlan ∷ [] }
     -- P3
-    ∷ record { nest = one 0; facts = answer 0 ∷ iterationsAre 1 ∷ stepsAre 1 ∷ blockSizes (1 ∷ []) ∷ blockProcessors (0 ∷ []) ∷ [] }
+    ∷ record {
+      nest = one 0;
+      facts = answer 0 ∷ iterationsAre 1 ∷ stepsAre 1 ∷ blockSizes (1 ∷ []) ∷ blockProcessors (0 ∷ []) ∷ [];
+    }
     -- P4; 000's own 37 projected points and 17 groups are those of a second loop from 0 to 3
-    ∷ record { nest = L2 2; facts = answer 0 ∷ iterationsAre 48 ∷ stepsAre 9 ∷ groupSizeIs 3 ∷ chosenAre 2 ∷ projectedPoints 30 ∷ blocksAre 12 ∷ [] }
+    ∷ record {
+      nest = L2 2;
+      facts = answer 0 ∷ iterationsAre 48 ∷ stepsAre 9 ∷ groupSizeIs 3 ∷ chosenAre 2
+          ∷ projectedPoints 30 ∷ blocksAre 12 ∷ [];
+    }
     ∷ record { nest = L2 3; facts = answer 0 ∷ projectedPoints 37 ∷ blocksAre 17 ∷ [] }
     -- P5
-    ∷ record { nest = nestWith (3 ∷ 3 ∷ []) (vector (1 ∷ 1 ∷ [])) (vector (0 ∷ 3 ∷ []) ∷ vector (0 ∷ 1 ∷ []) ∷ []) 0; facts = answer 0 ∷ classesAre 3 ∷ [] }
+    ∷ record {
+      nest = nestWith (3 ∷ 3 ∷ []) (vector (1 ∷ 1 ∷ [])) (vector (0 ∷ 3 ∷ []) ∷ vector (0 ∷ 1 ∷ []) ∷ []) 0;
+      facts = answer 0 ∷ classesAre 3 ∷ [];
+    }
     -- P6
     ∷ record {
       nest = nestWith (3 ∷ 3 ∷ []) (vector (1 ∷ 0 ∷ [])) (vector (1 ∷ 0 ∷ []) ∷ vector (1 ∷ 1 ∷ []) ∷ []) 0;
@@ -194,7 +227,8 @@ table =
     ∷ record {
       nest = uneven;
       facts =
-          answer 0 ∷ iterationsAre 60 ∷ stepsAre 2 ∷ groupSizeIs 1 ∷ chosenAre 2 ∷ classesAre 2 ∷ blocksAre 30 ∷ dependencesAre 44 44 ∷ messagesAre 28
+          answer 0 ∷ iterationsAre 60 ∷ stepsAre 2 ∷ groupSizeIs 1 ∷ chosenAre 2 ∷ classesAre 2 ∷ blocksAre 30
+          ∷ dependencesAre 44 44 ∷ messagesAre 28
           ∷ blockProcessors (
           8 ∷ 8 ∷ 10 ∷ 14 ∷ 12
           ∷ 9 ∷ 9 ∷ 11 ∷ 15 ∷ 13
@@ -208,5 +242,17 @@ table =
     ∷ []
 
 pub examples-hold : all (λ c. all (says (c .nest)) (c .facts)) table ≡ true
-unfolding any all first place firstsAfter firsts count repeats tab greatest firstFrom dots plus times eqZ eqV isZeroV floorDiv toℕ part limitsOf timeOf dependencesOf weightsOf padded nestOf emptyNest extent indices points pointsOf pointCount rank isPoint source number outside crossed outOfSpan backward holds firstMet refusal orElse sourceRank blanksOf allDigits valueOf digitsOf signedOf readOf digitsTo numeralOf fieldOf line linesOf isLine numbersOf areLines lineNumbers widths shapes fits firstFitting isHeaded headerWidthOf headerNumbers headed headerOf restOf isShaped bodyNumbers nestFrom bodyOf readRefusal readNest textOf bytes lines projection divides makesWhole multiplier groupSize leastZ step pivot clear remainder mayGroup groupingVector extend chosenVectors chosenCount latest coefficients left isCombination frame directions difference sameClass coordinates seeds eqG quotients classNumber group blocks blockNumber stepsOf stepCount frameOf groupsOf blocksOf blockCount inOrder greatestZ direction undealt takesBit withBit noDirection nextTurn dealBit dealBits dealt gray partOf joined processor directionsOf processorsOf processorCount crosses isMessage total messageCount sourceValue madeOf loop sequential sum weightedSum ruleOf valuesOf countsOf rowOf planLines planText listing eqN below isSome pairs says vector nestWith L1 L2 two one ungrouped uneven listed listedText listedPlan table flatMap zipWith
+unfolding any all first place firstsAfter firsts count repeats tab greatest firstFrom dots plus times eqZ eqV
+    isZeroV floorDiv toℕ part limitsOf timeOf dependencesOf weightsOf padded nestOf emptyNest extent indices points
+    pointsOf pointCount rank isPoint source number outside crossed outOfSpan backward holds firstMet refusal orElse
+    sourceRank blanksOf allDigits valueOf digitsOf signedOf readOf digitsTo numeralOf fieldOf line linesOf isLine
+    numbersOf areLines lineNumbers widths shapes fits firstFitting isHeaded headerWidthOf headerNumbers headed
+    headerOf restOf isShaped bodyNumbers nestFrom bodyOf readRefusal readNest textOf bytes lines projection divides
+    makesWhole multiplier groupSize leastZ step pivot clear remainder mayGroup groupingVector extend chosenVectors
+    chosenCount latest coefficients left isCombination frame directions difference sameClass coordinates seeds eqG
+    quotients classNumber group blocks blockNumber stepsOf stepCount frameOf groupsOf blocksOf blockCount inOrder
+    greatestZ direction undealt takesBit withBit noDirection nextTurn dealBit dealBits dealt gray partOf joined
+    processor directionsOf processorsOf processorCount crosses isMessage total messageCount sourceValue madeOf loop
+    sequential sum weightedSum ruleOf valuesOf countsOf rowOf planLines planText listing eqN below isSome pairs says
+    vector nestWith L1 L2 two one ungrouped uneven listed listedText listedPlan table flatMap zipWith
 examples-hold = refl

@@ -31,12 +31,17 @@ planText s = flatMap line (planLines s)
 
 -- what is printed for a text: the plan of its nest; a refusal is its number alone
 unfoldable pub listing : Bytes → Bytes
-listing text = elim (eqb (readRefusal text) 0) [ true ↦ planText (readNest text) | false ↦ line (pos (readRefusal text) ∷ []) ]
+listing text = elim (eqb (readRefusal text) 0) [
+  | true ↦ planText (readNest text)
+  | false ↦ line (pos (readRefusal text) ∷ [])
+]
 
--- `list`'s refusals in their order: those of the text, then 14 (proofs/Answers.antt: the number is what they answer)
+-- `list`'s refusals in their order: those of the text, then 14 (proofs/Answers.antt: the
+-- number is what they answer)
 abbrev pub listOrder : Bytes → ℕ → Order
 listOrder text room = readOrder text ++ ((14, room < length (planText (readNest text))) ∷ [])
 
--- what a call of `list` promises that answers r and leaves the buffer `new`, which it found as `old`
+-- what a call of `list` promises that answers r and leaves the buffer `new`,
+-- which it found as `old`
 abbrev pub Lists : Bytes → Bytes → Writing → Bytes → Type 0
 Lists text old r new = Puts (readRefusal text) (planText (readNest text)) old r new

@@ -1,4 +1,5 @@
--- The plan of a loop nest: four tables and five counts, and what a call of `plan` answers and leaves in its tables.
+-- The plan of a loop nest: four tables and five counts, and what a call of `plan` answers
+-- and leaves in its tables.
 -- Assumes nothing.
 use mathlib.Core.Path.{_≡_}
 use mathlib.Core.Bool.{true, false}
@@ -24,11 +25,13 @@ countsIn r = r .iterations ∷ r .steps ∷ r .blocks ∷ r .processors ∷ r .m
 
 -- 2 to 13, then 14 for a table with fewer entries than there are iterations
 unfoldable pub planRefusal : LoopNest → ℕ → ℕ → ℕ → ℕ → ℕ
-planRefusal s steps blocks processors values = orElse (refusal s) (noRoom (length (pointsOf s)) steps blocks processors values)
+planRefusal s steps blocks processors values = orElse (refusal s)
+    (noRoom (length (pointsOf s)) steps blocks processors values)
 
 -- `plan`'s refusals in their order (proofs/Answers.antt: the number is what they answer)
 abbrev pub planOrder : LoopNest → ℕ → ℕ → ℕ → ℕ → Order
-planOrder s steps blocks processors values = nestOrder s ++ ((14, OneShort (length (pointsOf s)) steps blocks processors values) ∷ [])
+planOrder s steps blocks processors values = nestOrder s
+    ++ ((14, OneShort (length (pointsOf s)) steps blocks processors values) ∷ [])
 
 -- refused with this number: every count is 0
 abbrev pub refusedWith : ℕ → Planning
@@ -38,7 +41,14 @@ refusedWith k = record { refusal = k; iterations = 0; steps = 0; blocks = 0; pro
 unfoldable pub planAnswer : LoopNest → ℕ → Planning
 planAnswer s k =
     elim (eqb k 0) [
-      | true ↦ record { refusal = 0; iterations = length (pointsOf s); steps = stepCount s; blocks = blockCount s; processors = processorCount s; messages = messageCount s }
+      | true ↦ record {
+        refusal = 0;
+        iterations = length (pointsOf s);
+        steps = stepCount s;
+        blocks = blockCount s;
+        processors = processorCount s;
+        messages = messageCount s;
+      }
       | false ↦ refusedWith k
     ]
 
@@ -61,7 +71,12 @@ pub record Tables : Type 0 where
 
 -- by what they hold
 abbrev pub tablesIn : List ℕ → List ℕ → List ℕ → List ℕ → Tables
-tablesIn steps blocks processors values = record { steps = steps; blocks = blocks; processors = processors; values = values }
+tablesIn steps blocks processors values = record {
+  steps = steps;
+  blocks = blocks;
+  processors = processors;
+  values = values;
+}
 
 -- the number of the first refusal of a call that is lent these tables
 abbrev pub tablesRefusal : LoopNest → Tables → ℕ

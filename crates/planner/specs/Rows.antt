@@ -6,4 +6,5 @@ use lib.ListN.{getD}
 
 -- rank, step, block, processor, value of iteration k
 unfoldable pub rowOf : List ℕ → List ℕ → List ℕ → List ℕ → ℕ → List ℤ
-rowOf steps blocks processors values k = pos k ∷ pos (getD steps k 0) ∷ pos (getD blocks k 0) ∷ pos (getD processors k 0) ∷ pos (getD values k 0) ∷ []
+rowOf steps blocks processors values k = pos k ∷ pos (getD steps k 0) ∷ pos (getD blocks k 0)
+    ∷ pos (getD processors k 0) ∷ pos (getD values k 0) ∷ []

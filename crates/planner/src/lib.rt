@@ -1,4 +1,5 @@
-// The plan of a loop nest: its steps, blocks, processors and values, and the counts of them (000, algorithms 1 and 2); and its listing.
+// The plan of a loop nest: its steps, blocks, processors and values, and the counts of them (000,
+// algorithms 1 and 2); and its listing.
 mod lines;
 
 use nest::LoopNest;
@@ -43,9 +44,11 @@ fn refused(refusal: u8) -> Planning
     }
 }
 
-// The blocks and the processors of the iterations of an accepted nest, from the keys of its index points, into two tables. Answers how many blocks there are.
+// The blocks and the processors of the iterations of an accepted nest, from the keys of its index
+// points, into two tables. Answers how many blocks there are.
 fn place_blocks(s: LoopNest, keys: &[i64], blocks: &mut [u16], processors: &mut [u8]) -> usize
-    requires { ⌜ (refusal s ≡ 0) × (now keys ≡ keysOf s) × (length (pointsOf s) ≤ length (now blocks)) × (length (pointsOf s) ≤ length (now processors)) ⌝ }
+    requires { ⌜ (refusal s ≡ 0) × (now keys ≡ keysOf s) × (length (pointsOf s) ≤ length (now blocks))
+        × (length (pointsOf s) ≤ length (now processors)) ⌝ }
     ensures { λ r. ⌜ r ≡ blockCount s ⌝ }
     ensures { λ r. ⌜ now (blocks .exit) ≡ blocksOf s ++ drop (length (pointsOf s)) (now (blocks .entry)) ⌝ }
     ensures { λ r. ⌜ now (processors .exit) ≡ processorsOf s ++ drop (length (pointsOf s)) (now (processors .entry)) ⌝ }
@@ -66,7 +69,8 @@ fn make(
     processors: &mut [u8],
     values: &mut [u16],
 ) -> Planning
-    requires { ⌜ (refusal s ≡ 0) × (n ≡ length (pointsOf s)) × (n ≤ length (now steps)) × (n ≤ length (now blocks)) × (n ≤ length (now processors)) × (n ≤ length (now values)) ⌝ }
+    requires { ⌜ (refusal s ≡ 0) × (n ≡ length (pointsOf s)) × (n ≤ length (now steps)) × (n ≤ length (now blocks))
+        × (n ≤ length (now processors)) × (n ≤ length (now values)) ⌝ }
     ensures { λ r. ⌜ r ≡ planAnswer s 0 ⌝ }
     ensures { λ r. ⌜ now (steps .exit) ≡ stepsOf s ++ drop n (now (steps .entry)) ⌝ }
     ensures { λ r. ⌜ now (blocks .exit) ≡ blocksOf s ++ drop n (now (blocks .entry)) ⌝ }
@@ -132,8 +136,8 @@ fn put_plan(s: LoopNest, n: usize, out: &mut [u8])
     lines::put_rows(out, end, n, &steps, &blocks, &processors, &values);
 }
 
-// The plan of a loop nest as text, from the nest's text into a lent buffer; answers its length, or the number of the first refusal, 1 to 14, with length 0 and no
-// byte changed.
+// The plan of a loop nest as text, from the nest's text into a lent buffer; answers its length, or
+// the number of the first refusal, 1 to 14, with length 0 and no byte changed.
 pub fn list(text: &[u8], out: &mut [u8]) -> Writing
     ensures { λ r. ⌜ Lists (now (text .entry)) (now (out .entry)) r (now (out .exit)) ⌝ }
 {

@@ -39,7 +39,9 @@ fn put_row(
     value: u16,
 ) -> usize
     requires { ⌜ (at + 31 ≤ length (now out)) × ((rank < 1000000) × (step < 1000000)) ⌝ }
-    ensures { λ r. ⌜ (r ≡ at + 31) × Stored (now (out .entry)) at (line (pos rank ∷ pos step ∷ pos block ∷ pos processor ∷ pos value ∷ [])) (now (out .exit)) r ⌝ }
+    ensures { λ r. ⌜ (r ≡ at + 31)
+        × Stored (now (out .entry)) at (line (pos rank ∷ pos step ∷ pos block ∷ pos processor ∷ pos value ∷ []))
+        (now (out .exit)) r ⌝ }
 {
     let counts = [
         rank,
@@ -62,9 +64,12 @@ pub fn put_rows(
     values: &[u16],
 ) -> usize
     requires { ⌜ (at + 31 * n ≤ length (now out)) × (n ≤ maxIterations) ⌝ }
-    requires { ⌜ (n ≤ length (now steps)) × (n ≤ length (now blocks)) × (n ≤ length (now processors)) × (n ≤ length (now values)) ⌝ }
+    requires { ⌜ (n ≤ length (now steps)) × (n ≤ length (now blocks)) × (n ≤ length (now processors))
+        × (n ≤ length (now values)) ⌝ }
     requires { ⌜ ((k : ℕ) → k < n → getD (now steps) k 0 < 1000000) ⌝ }
-    ensures { λ r. ⌜ Stored (now (out .entry)) at (flatMap line (tab (rowOf (now (steps .entry)) (now (blocks .entry)) (now (processors .entry)) (now (values .entry))) n)) (now (out .exit)) r ⌝ }
+    ensures { λ r. ⌜ Stored (now (out .entry)) at
+        (flatMap line (tab (rowOf (now (steps .entry)) (now (blocks .entry)) (now (processors .entry))
+        (now (values .entry))) n)) (now (out .exit)) r ⌝ }
 {
     let mut end = at;
     for k in 0..n {

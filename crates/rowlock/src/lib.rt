@@ -1,7 +1,10 @@
-// The entries on numbers and slices, for callers in C and Rust, as a static library. c/rowlock.h has their prototypes, and says what the pointers have to be.
+// The entries on numbers and slices, for callers in C and Rust, as a static library.
+// c/rowlock.h has their prototypes, and says what the pointers have to be.
 //
-// A nest is lent as its 45 numbers. What an entry answers beside its number (counts, lengths, a span, a nest that was read) is stored through a reference of its own, zeros where
-// the call is refused: it is a part of the answer. `rows::row` answers a part of a lent table, which C cannot take: `rowlock_locate` says where that part lies.
+// A nest is lent as its 45 numbers. What an entry answers beside its number (counts, lengths, a
+// span, a nest that was read) is stored through a reference of its own, zeros where the call is
+// refused: it is a part of the answer. `rows::row` answers a part of a lent table, which C cannot
+// take: `rowlock_locate` says where that part lies.
 use numbers::NUMBERS;
 use numbers::made_in;
 use numbers::make_move_in;
@@ -39,7 +42,8 @@ pub extern "C" fn rowlock_inspect(numbers: &[i64; NUMBERS], n: &mut usize) -> u8
     known.refusal
 }
 
-// A nest from its text: 0 with the nest, unused places 0; or the number of the first refusal, 1 to 13, with a nest of zeros.
+// A nest from its text: 0 with the nest, unused places 0; or the number of the first refusal, 1 to
+// 13, with a nest of zeros.
 #[no_mangle]
 pub extern "C" fn rowlock_read(text: &[u8], numbers: &mut [i64; NUMBERS]) -> u8
     ensures { λ r. ⌜ ReadsInto (now (text .entry)) r (now (numbers .exit)) ⌝ }
@@ -49,7 +53,8 @@ pub extern "C" fn rowlock_read(text: &[u8], numbers: &mut [i64; NUMBERS]) -> u8
     reading.refusal
 }
 
-// The text of a nest into a lent buffer, and how many bytes it has; or the number of the first refusal, 2 to 14, with 0 bytes and the buffer as it was.
+// The text of a nest into a lent buffer, and how many bytes it has; or the number of the first
+// refusal, 2 to 14, with 0 bytes and the buffer as it was.
 #[no_mangle]
 pub extern "C" fn rowlock_write(numbers: &[i64; NUMBERS], out: &mut [u8], bytes: &mut usize) -> u8
     ensures { λ r. ⌜ Writes (nestIn (now (numbers .entry))) (now (out .entry))
@@ -60,7 +65,8 @@ pub extern "C" fn rowlock_write(numbers: &[i64; NUMBERS], out: &mut [u8], bytes:
     writing.refusal
 }
 
-// Where the row of an outermost index lies in a table of so many entries, by its start and its length; or the number of the first refusal, 2 to 14, then 19, with zeros.
+// Where the row of an outermost index lies in a table of so many entries, by its start and its
+// length; or the number of the first refusal, 2 to 14, then 19, with zeros.
 #[no_mangle]
 pub extern "C" fn rowlock_locate(
     numbers: &[i64; NUMBERS],
@@ -75,7 +81,8 @@ pub extern "C" fn rowlock_locate(
     at.refusal
 }
 
-// The values of the sequential loop into a lent table; or the number of the first refusal, 2 to 14, with the table as it was.
+// The values of the sequential loop into a lent table; or the number of the first refusal, 2 to 14,
+// with the table as it was.
 #[no_mangle]
 pub extern "C" fn rowlock_fill(numbers: &[i64; NUMBERS], values: &mut [u16]) -> u8
     ensures { λ r. ⌜ Fills (nestIn (now (numbers .entry))) (now (values .entry)) r (now (values .exit)) ⌝ }
@@ -83,8 +90,9 @@ pub extern "C" fn rowlock_fill(numbers: &[i64; NUMBERS], values: &mut [u16]) -> 
     sequential::fill(nest_in(numbers), values)
 }
 
-// The plan of a nest into four lent tables, and its counts (iterations, steps, blocks, processors that hold an iteration, messages); or the number of the
-// first refusal, 2 to 14, with every count 0 and the tables as they were.
+// The plan of a nest into four lent tables, and its counts (iterations, steps, blocks, processors
+// that hold an iteration, messages); or the number of the first refusal, 2 to 14, with every count
+// 0 and the tables as they were.
 #[no_mangle]
 pub extern "C" fn rowlock_plan(
     numbers: &[i64; NUMBERS],
@@ -110,8 +118,8 @@ pub extern "C" fn rowlock_plan(
     answer.refusal
 }
 
-// The plan of a nest as text, from the nest's text into a lent buffer, and how many bytes it has; or the number of the first refusal, 1 to 14, with 0 bytes and
-// the buffer as it was.
+// The plan of a nest as text, from the nest's text into a lent buffer, and how many bytes it has;
+// or the number of the first refusal, 1 to 14, with 0 bytes and the buffer as it was.
 #[no_mangle]
 pub extern "C" fn rowlock_list(text: &[u8], out: &mut [u8], bytes: &mut usize) -> u8
     ensures { λ r. ⌜ Lists (now (text .entry)) (now (out .entry))
@@ -122,10 +130,12 @@ pub extern "C" fn rowlock_list(text: &[u8], out: &mut [u8], bytes: &mut usize) -
     listing.refusal
 }
 
-// Makes a move on the tables of a plan and on a state, all of any content. Kind 1 is a compute on processor `first`, kind 2 a delivery for rank `first`
-// along dependence number `second`; any other kind is refused with 18.
-// Answers 0, or the number of the refusal, 2 to 18, with no buffer of the state changed. `made` has the rank and the value of the iteration computed, or the rank and the dependence
-// number of the message delivered; zeros where refused.
+// Makes a move on the tables of a plan and on a state, all of any content. Kind 1 is a compute on
+// processor `first`, kind 2 a delivery for rank `first` along dependence number `second`; any other
+// kind is refused with 18.
+// Answers 0, or the number of the refusal, 2 to 18, with no buffer of the state changed. `made` has
+// the rank and the value of the iteration computed, or the rank and the dependence number of the
+// message delivered; zeros where refused.
 #[no_mangle]
 pub extern "C" fn rowlock_move(
     numbers: &[i64; NUMBERS],

@@ -1,4 +1,5 @@
--- A row (document 01, "The row"): the entries of the iterations with one outermost index, as a part of a table in loop order.
+-- A row (document 01, "The row"): the entries of the iterations with one outermost index, as a part
+-- of a table in loop order.
 -- Assumes nothing.
 use mathlib.Core.Path.{_≡_}
 use mathlib.Core.Bool.{true, false}
@@ -19,7 +20,8 @@ use Rattle.rows.specs.declared.Span.{Span}
 abbrev pub outermost : Vector → ℤ
 outermost j = getD j 0 (pos 0)
 
--- the row of index i starts behind the iterations with a smaller outermost index, and is as long as there are iterations with that index
+-- the row of index i starts behind the iterations with a smaller outermost index, and is as long as
+-- there are iterations with that index
 unfoldable pub rowStart : LoopNest → ℤ → ℕ
 rowStart s i = count (λ j. ltZ (outermost j) i) (pointsOf s)
 
@@ -36,7 +38,8 @@ rowRefusal s entries i = orElse (refusal s) (orElse (shortBuffer (length (points
 
 -- these refusals in their order (proofs/Answers.antt: the number is what they answer)
 abbrev pub rowOrder : LoopNest → ℕ → ℤ → Order
-rowOrder s entries i = nestOrder s ++ ((14, entries < length (pointsOf s)) ∷ (19, Outside (limit s 0 .lower) (limit s 0 .upper) i) ∷ [])
+rowOrder s entries i = nestOrder s
+    ++ ((14, entries < length (pointsOf s)) ∷ (19, Outside (limit s 0 .lower) (limit s 0 .upper) i) ∷ [])
 
 -- where the row lies in a table of so many entries; 0 and 0 where the call is refused
 unfoldable pub spanOf : LoopNest → ℕ → ℤ → Span

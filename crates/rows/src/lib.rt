@@ -7,7 +7,8 @@ ghost use Rattle.rows.specs.Rows.{Locates, Cuts};
 // no such row: index outside the outermost limits
 pub const NO_SUCH_ROW: u8 = 19;
 
-// Where a row lies in a table: the number of a refusal with 0 and 0, or 0 with the row's start and length.
+// Where a row lies in a table: the number of a refusal with 0 and 0, or 0 with
+// the row's start and length.
 pub struct Span {
     pub refusal: u8,
     pub start: usize,
@@ -53,7 +54,8 @@ pub fn locate(s: LoopNest, entries: usize, index: i64) -> Span
     }
 }
 
-// The row of an outermost index, as a part of the lent table: empty where the call is refused. The number of the refusal, or 0, is stored in `refusal`.
+// The row of an outermost index, as a part of the lent table: empty where the call is refused. The
+// number of the refusal, or 0, is stored in `refusal`.
 pub fn row<'a>(s: LoopNest, table: &'a [u16], index: i64, refusal: &mut u8) -> &'a [u16]
     ensures { λ r. ⌜ Cuts s (now (table .entry)) index (now r) (now (refusal .exit)) ⌝ }
 {

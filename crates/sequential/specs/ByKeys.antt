@@ -1,4 +1,5 @@
--- The weighted sum of an iteration's sources, which are found in a table of keys; proofs/KeyLaws.antt shows that it is the nest's own.
+-- Serves the proofs alone: the weighted sum of an iteration's sources, which are found in a table
+-- of keys; proofs/KeyLaws.antt shows that it is the nest's own.
 -- Assumes nothing.
 use mathlib.Core.List.{List}
 use Prim.Native.Nat.{ℕ, _+_, _*_, _%_}

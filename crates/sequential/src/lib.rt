@@ -7,7 +7,8 @@ ghost use mathlib.Core.List.{[], _++_};
 ghost use Prim.Native.Nat.{ℕ, _*_, _<_, _≤_};
 ghost use lib.IntN.{pos};
 ghost use lib.ListN.{length, getD, take, drop};
-ghost use Rattle.nest.specs.Nest.{toℕ, part, padded, depthOf, countOf, maxDepth, maxDependences, maxIterations, maxBoundary, maxWeight};
+ghost use Rattle.nest.specs.Nest.{toℕ, part, padded, depthOf, countOf, maxDepth, maxDependences, maxIterations};
+ghost use Rattle.nest.specs.Nest.{maxBoundary, maxWeight};
 ghost use Rattle.nest.specs.Points.{pointsOf, rank, isPoint, source};
 ghost use Rattle.nest.specs.Refusals.{refusal, dependence};
 ghost use Rattle.sources.specs.Keys.{keysOf, Searchable, Behind};
@@ -25,7 +26,8 @@ fn entry_or(values: &[u16], n: usize, j: usize, boundary: u16) -> u16
     if j < n { values[j] } else { boundary }
 }
 
-// A weight times entry j of the first n of a table; the boundary value stands for an entry that is none of them.
+// A weight times entry j of the first n of a table; the boundary value stands for an
+// entry that is none of them.
 fn weighted(values: &[u16], n: usize, j: usize, boundary: u16, weight: usize) -> usize
     requires { ⌜ (n ≤ length (now values)) × (weight ≤ maxWeight) ⌝ }
     ensures { λ r. ⌜ (r ≡ weight * getD (take n (now (values .entry))) j boundary) × (r ≤ maxWeight * maxBoundary) ⌝ }
@@ -33,7 +35,8 @@ fn weighted(values: &[u16], n: usize, j: usize, boundary: u16, weight: usize) ->
     weight * entry_or(values, n, j, boundary) as usize
 }
 
-// The weight of dependence i times the value that is read along it at an index point, where the n iterations have these values.
+// The weight of dependence i times the value that is read along it at an index point, where the n
+// iterations have these values.
 fn weighted_source(
     s: LoopNest,
     n: usize,
@@ -41,8 +44,10 @@ fn weighted_source(
     point: [i64; LoopNest::MAX_DEPTH],
     i: usize,
 ) -> usize
-    requires { ⌜ (refusal s ≡ 0) × (isPoint (pointsOf s) (part point 0 (depthOf s)) ≡ true) × (i < countOf s) × (n ≤ length (now values)) ⌝ }
-    ensures { λ r. ⌜ r ≡ toℕ (getD (s .weights) i (pos 0)) * getD (take n (now (values .entry))) (rank (pointsOf s) (source (part point 0 (depthOf s)) (dependence s i))) (toℕ (s .boundary)) ⌝ }
+    requires { ⌜ (refusal s ≡ 0) × (isPoint (pointsOf s) (part point 0 (depthOf s)) ≡ true) × (i < countOf s)
+        × (n ≤ length (now values)) ⌝ }
+    ensures { λ r. ⌜ r ≡ toℕ (getD (s .weights) i (pos 0)) * getD (take n (now (values .entry)))
+        (rank (pointsOf s) (source (part point 0 (depthOf s)) (dependence s i))) (toℕ (s .boundary)) ⌝ }
     ensures { λ r. ⌜ r ≤ maxWeight * maxBoundary ⌝ }
 {
     let j = nest::source_at(s, point, i);
@@ -52,7 +57,8 @@ fn weighted_source(
     weighted(values, n, j, boundary, weight)
 }
 
-// The value of iteration k of an accepted nest, whose index point is given, where the n iterations have these values: the weighted sum of its source values.
+// The value of iteration k of an accepted nest, whose index point is given, where the n iterations
+// have these values: the weighted sum of its source values.
 fn value_from(
     s: LoopNest,
     n: usize,
@@ -60,7 +66,8 @@ fn value_from(
     point: [i64; LoopNest::MAX_DEPTH],
     k: usize,
 ) -> u16
-    requires { ⌜ (refusal s ≡ 0) × (n ≡ length (pointsOf s)) × (k < n) × (n ≤ length (now values)) × (point ≡ padded maxDepth (getD (pointsOf s) k [])) ⌝ }
+    requires { ⌜ (refusal s ≡ 0) × (n ≡ length (pointsOf s)) × (k < n) × (n ≤ length (now values))
+        × (point ≡ padded maxDepth (getD (pointsOf s) k [])) ⌝ }
     ensures { λ r. ⌜ r ≡ valueOf (ruleOf s) s (now (values .entry)) k ⌝ }
 {
     let m = nest::to_size(s.count);
@@ -94,8 +101,8 @@ fn weights_of(s: LoopNest) -> [usize; LoopNest::MAX_DEPENDENCES]
     sizes
 }
 
-// The value of iteration k, where the iterations before it have these values: the weighted sum of its source values. The sources are found by their keys,
-// and the cursors go forward to them.
+// The value of iteration k, where the iterations before it have these values: the weighted sum of
+// its source values. The sources are found by their keys, and the cursors go forward to them.
 fn next_value(
     keys: &[i64],
     k: usize,
@@ -106,10 +113,13 @@ fn next_value(
     values: &[u16],
     cursors: &mut [usize; LoopNest::MAX_DEPENDENCES],
 ) -> u16
-    requires { ⌜ (k < length (now keys)) × (length (now keys) ≤ maxIterations) × (length (now keys) ≤ length (now values)) × (m ≤ maxDependences) ⌝ }
-    requires { ⌜ ((i : ℕ) → i < m → Searchable (now keys) (getD (now distances) i (pos 0)) × (getD (now weights) i 0 ≤ maxWeight)) ⌝ }
+    requires { ⌜ (k < length (now keys)) × (length (now keys) ≤ maxIterations)
+        × (length (now keys) ≤ length (now values)) × (m ≤ maxDependences) ⌝ }
+    requires { ⌜ ((i : ℕ) → i < m → Searchable (now keys) (getD (now distances) i (pos 0))
+        × (getD (now weights) i 0 ≤ maxWeight)) ⌝ }
     requires { ⌜ Behind (now keys) (now distances) k m (now cursors) ⌝ }
-    ensures { λ r. ⌜ r ≡ valueIn (now (keys .entry)) (now (distances .entry)) (now (weights .entry)) boundary (now (values .entry)) k m ⌝ }
+    ensures { λ r. ⌜ r ≡ valueIn (now (keys .entry)) (now (distances .entry)) (now (weights .entry)) boundary
+        (now (values .entry)) k m ⌝ }
     ensures { λ r. ⌜ Behind (now (keys .entry)) (now (distances .entry)) k m (now (cursors .exit)) ⌝ }
 {
     let n = keys.len();
@@ -121,10 +131,12 @@ fn next_value(
     (total % MODULUS) as u16
 }
 
-// The values of the iterations of an accepted nest, in loop order, from the keys of its index points.
+// The values of the iterations of an accepted nest, in loop order, from the
+// keys of its index points.
 pub fn fill_by_keys(s: LoopNest, keys: &[i64], values: &mut [u16])
     requires { ⌜ (refusal s ≡ 0) × (now keys ≡ keysOf s) × (length (pointsOf s) ≤ length (now values)) ⌝ }
-    ensures { λ _. ⌜ now (values .exit) ≡ loop (ruleOf s) s (length (pointsOf s)) ++ drop (length (pointsOf s)) (now (values .entry)) ⌝ }
+    ensures { λ _. ⌜ now (values .exit)
+        ≡ loop (ruleOf s) s (length (pointsOf s)) ++ drop (length (pointsOf s)) (now (values .entry)) ⌝ }
 {
     let n = keys.len();
     let m = nest::to_size(s.count);
@@ -156,8 +168,8 @@ fn fill_values(s: LoopNest, n: usize, values: &mut [u16])
     fill_by_keys(s, &keys[..n], values);
 }
 
-// The values of the sequential loop into a lent table, which has an entry for each iteration; answers 0, or the number of the first refusal, 2 to 14,
-// with no entry changed.
+// The values of the sequential loop into a lent table, which has an entry for each iteration;
+// answers 0, or the number of the first refusal, 2 to 14, with no entry changed.
 pub fn fill(s: LoopNest, values: &mut [u16]) -> u8
     ensures { λ r. ⌜ Fills s (now (values .entry)) r (now (values .exit)) ⌝ }
 {

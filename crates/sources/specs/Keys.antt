@@ -1,6 +1,7 @@
--- One number for a vector, its key: the components are digits in a base that is larger than twice any of them. So keys are in the order of the vectors, and
--- the key of a difference is the difference of the keys: a source is found by its key in the table of the points' keys. Nothing here knows limits, and
--- of depths only the greatest. Assumes nothing.
+-- Serves the proofs alone: one number for a vector, its key. The components are digits in a base
+-- that is larger than twice any of them. So keys are in the order of the vectors, and the key of a
+-- difference is the difference of the keys: a source is found by its key in the table of the
+-- points' keys. Nothing here knows limits, and of depths only the greatest. Assumes nothing.
 use mathlib.Core.List.{List, [], _∷_, _++_, map}
 use Prim.Native.Nat.{ℕ, zero, suc, _^_, _<_, _≤_}
 use lib.IntN.{ℤ, pos, natAbs, _+ℤ_, _-ℤ_, _*ℤ_}
@@ -82,4 +83,5 @@ pub record Searchable (ks : List ℤ) (distance : ℤ) : Type 0 where
 
 -- no cursor is past the place that is searched for at iteration k, of m dependences
 abbrev pub Behind : List ℤ → List ℤ → ℕ → ℕ → List ℕ → Type 0
-Behind ks distances k m cursors = (i : ℕ) → i < m → getD cursors i 0 ≤ notBelow (targetIn ks k (getD distances i (pos 0))) ks
+Behind ks distances k m cursors = (i : ℕ) → i < m
+    → getD cursors i 0 ≤ notBelow (targetIn ks k (getD distances i (pos 0))) ks

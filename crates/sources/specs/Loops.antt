@@ -1,4 +1,5 @@
--- The loops that the walk over rectangular limits goes through. Assumes nothing.
+-- Serves the proofs alone: the loops that the walk over rectangular limits goes through.
+-- Assumes nothing.
 use mathlib.Core.List.{List}
 use Prim.Native.Nat.{ℕ, _+_}
 use lib.IntN.{ℤ}

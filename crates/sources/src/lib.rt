@@ -1,6 +1,7 @@
-// The sources of a loop nest's iterations, one after the other in loop order. Each index point has a key, a number; keys are in loop order, and the key of a
-// source is the key of the iteration less that of the dependence. The sources along one dependence come in loop order too, so one cursor for each
-// dependence, which only goes forward, finds them in the table of keys.
+// The sources of a loop nest's iterations, one after the other in loop order. Each index point has
+// a key, a number; keys are in loop order, and the key of a source is the key of the iteration less
+// that of the dependence. The sources along one dependence come in loop order too, so one cursor
+// for each dependence, which only goes forward, finds them in the table of keys.
 use nest::LoopNest;
 ghost use mathlib.Core.Path.{_≡_};
 ghost use mathlib.Core.Bool.{false};
@@ -14,7 +15,8 @@ ghost use Rattle.integers.specs.Vector.{eqZ};
 ghost use Rattle.nest.specs.Nest.{part, padded, maxDepth, maxDependences, maxLimit, maxIterations};
 ghost use Rattle.nest.specs.Points.{points, pointsOf, pointCount};
 ghost use Rattle.nest.specs.Refusals.{refusal, crossed};
-ghost use Rattle.sources.specs.Keys.{base, keyFrom, key, maxKey, above, digits, keysOf, distancesOf, Increasing, notBelow, targetIn, sourceIn, Searchable};
+ghost use Rattle.sources.specs.Keys.{base, keyFrom, key, maxKey, above, digits, keysOf, distancesOf, Increasing};
+ghost use Rattle.sources.specs.Keys.{notBelow, targetIn, sourceIn, Searchable};
 ghost use Rattle.sources.specs.Loops.{limitsFrom};
 
 // Components are digits in this base.
@@ -28,7 +30,8 @@ const BITS: usize = 12;
 
 // The key of n components, from place `from` on.
 pub fn key_of(xs: &[i64], from: usize, n: usize) -> i64
-    requires { ⌜ (n ≤ maxDepth) × (from + n ≤ length (now xs)) × ((k : ℕ) → k < n → natAbs (getD (now xs) (from + k) (pos 0)) ≤ maxLimit) ⌝ }
+    requires { ⌜ (n ≤ maxDepth) × (from + n ≤ length (now xs))
+        × ((k : ℕ) → k < n → natAbs (getD (now xs) (from + k) (pos 0)) ≤ maxLimit) ⌝ }
     ensures { λ r. ⌜ r ≡ key (part (now (xs .entry)) from n) ⌝ }
 {
     let mut key: i64 = 0;
@@ -73,7 +76,8 @@ fn row_into(keys: &mut [i64], at: usize, first: i64, n: usize)
     }
 }
 
-// The keys of the points of loop k, the innermost, behind the digits of the outer indices, into a table from place `at` on; answers the place behind them.
+// The keys of the points of loop k, the innermost, behind the digits of the outer indices, into a
+// table from place `at` on; answers the place behind them.
 fn row_from(
     lower: &[i64; LoopNest::MAX_DEPTH],
     upper: &[i64; LoopNest::MAX_DEPTH],
@@ -82,9 +86,13 @@ fn row_from(
     keys: &mut [i64],
     at: usize,
 ) -> usize
-    requires { ⌜ (k < maxDepth) × (natAbs prefix + natAbs prefix < base ^ k) × (any crossed (limitsFrom (now lower) (now upper) k 1) ≡ false) × (at + pointCount (limitsFrom (now lower) (now upper) k 1) ≤ length (now keys)) ⌝ }
+    requires { ⌜ (k < maxDepth) × (natAbs prefix + natAbs prefix < base ^ k)
+        × (any crossed (limitsFrom (now lower) (now upper) k 1) ≡ false)
+        × (at + pointCount (limitsFrom (now lower) (now upper) k 1) ≤ length (now keys)) ⌝ }
     ensures { λ r. ⌜ r ≡ at + pointCount (limitsFrom (now (lower .entry)) (now (upper .entry)) k 1) ⌝ }
-    ensures { λ r. ⌜ now (keys .exit) ≡ sets (now (keys .entry)) at (map (keyFrom prefix) (points (limitsFrom (now (lower .entry)) (now (upper .entry)) k 1))) ⌝ }
+    ensures { λ r. ⌜ now (keys .exit)
+        ≡ sets (now (keys .entry)) at
+        (map (keyFrom prefix) (points (limitsFrom (now (lower .entry)) (now (upper .entry)) k 1))) ⌝ }
 {
     let first = prefix * BASE + lower[k];
     let count = nest::extent_of(lower[k], upper[k]) as usize;
@@ -92,8 +100,9 @@ fn row_from(
     at + count
 }
 
-// The keys of the points of `left` loops, from loop k on, behind the digits of the outer indices, into a table from place `at` on; answers the place behind
-// them. The last loop but one has its rows written with no further recursion. Besides these two no function here knows of limits.
+// The keys of the points of `left` loops, from loop k on, behind the digits of the outer indices,
+// into a table from place `at` on; answers the place behind them. The last loop but one has its
+// rows written with no further recursion. Besides these two no function here knows of limits.
 fn keys_from(
     lower: &[i64; LoopNest::MAX_DEPTH],
     upper: &[i64; LoopNest::MAX_DEPTH],
@@ -103,9 +112,13 @@ fn keys_from(
     keys: &mut [i64],
     at: usize,
 ) -> usize
-    requires { ⌜ (1 ≤ left) × (k + left ≤ maxDepth) × (natAbs prefix + natAbs prefix < base ^ k) × (any crossed (limitsFrom (now lower) (now upper) k left) ≡ false) × (at + pointCount (limitsFrom (now lower) (now upper) k left) ≤ length (now keys)) ⌝ }
+    requires { ⌜ (1 ≤ left) × (k + left ≤ maxDepth) × (natAbs prefix + natAbs prefix < base ^ k)
+        × (any crossed (limitsFrom (now lower) (now upper) k left) ≡ false)
+        × (at + pointCount (limitsFrom (now lower) (now upper) k left) ≤ length (now keys)) ⌝ }
     ensures { λ r. ⌜ r ≡ at + pointCount (limitsFrom (now (lower .entry)) (now (upper .entry)) k left) ⌝ }
-    ensures { λ r. ⌜ now (keys .exit) ≡ sets (now (keys .entry)) at (map (keyFrom prefix) (points (limitsFrom (now (lower .entry)) (now (upper .entry)) k left))) ⌝ }
+    ensures { λ r. ⌜ now (keys .exit)
+        ≡ sets (now (keys .entry)) at
+        (map (keyFrom prefix) (points (limitsFrom (now (lower .entry)) (now (upper .entry)) k left))) ⌝ }
 {
     if left == 1 {
         return row_from(lower, upper, k, prefix, keys, at);
@@ -160,7 +173,8 @@ fn seek(keys: &[i64], from: usize, target: i64) -> usize
     c
 }
 
-// The place of the key that is the target, from the place of the first that is not below it; the number of keys where there is none.
+// The place of the key that is the target, from the place of the first that is not below it; the
+// number of keys where there is none.
 fn place_at(keys: &[i64], c: usize, target: i64) -> usize
     requires { ⌜ (c ≡ notBelow target (now keys)) × (c < length (now keys)) × Increasing (now keys) ⌝ }
     ensures { λ r. ⌜ r ≡ place (eqZ target) (now (keys .entry)) ⌝ }
@@ -168,8 +182,8 @@ fn place_at(keys: &[i64], c: usize, target: i64) -> usize
     if keys[c] == target { c } else { keys.len() }
 }
 
-// The rank of the source of iteration k along dependence i; the number of iterations where it is none of them. The dependence's cursor goes forward to the
-// source's place.
+// The rank of the source of iteration k along dependence i; the number of iterations where it is
+// none of them. The dependence's cursor goes forward to the source's place.
 pub fn next_source(
     keys: &[i64],
     k: usize,
@@ -177,10 +191,14 @@ pub fn next_source(
     i: usize,
     cursors: &mut [usize; LoopNest::MAX_DEPENDENCES],
 ) -> usize
-    requires { ⌜ (k < length (now keys)) × (i < maxDependences) × Searchable (now keys) (getD (now distances) i (pos 0)) ⌝ }
-    requires { ⌜ getD (now cursors) i 0 ≤ notBelow (targetIn (now keys) k (getD (now distances) i (pos 0))) (now keys) ⌝ }
+    requires { ⌜ (k < length (now keys)) × (i < maxDependences)
+        × Searchable (now keys) (getD (now distances) i (pos 0)) ⌝ }
+    requires { ⌜ getD (now cursors) i 0
+        ≤ notBelow (targetIn (now keys) k (getD (now distances) i (pos 0))) (now keys) ⌝ }
     ensures { λ r. ⌜ r ≡ sourceIn (now (keys .entry)) k (getD (now (distances .entry)) i (pos 0)) ⌝ }
-    ensures { λ r. ⌜ now (cursors .exit) ≡ set (now (cursors .entry)) i (notBelow (targetIn (now (keys .entry)) k (getD (now (distances .entry)) i (pos 0))) (now (keys .entry))) ⌝ }
+    ensures { λ r. ⌜ now (cursors .exit)
+        ≡ set (now (cursors .entry)) i
+        (notBelow (targetIn (now (keys .entry)) k (getD (now (distances .entry)) i (pos 0))) (now (keys .entry))) ⌝ }
 {
     let target = keys[k] - distances[i];
     let c = seek(keys, cursors[i], target);
