@@ -5,10 +5,10 @@ use mathlib.Core.Path.{_≡_}
 use mathlib.Core.Bool.{Bool, true, false, not, _&&_}
 use mathlib.Core.List.{List, [], _∷_}
 use mathlib.Core.Option.{Option, none, some}
-use Prim.Native.Nat.{ℕ, _+_, _^_}
+use Prim.Native.Nat.{ℕ, _+_, _^_, _≤_}
 use lib.Dec.{eqb, ltb}
 use Rattle.nest.specs.declared.LoopNest.{LoopNest}
-use lib.ListN.{getD, set}
+use lib.ListN.{length, getD, set}
 use Rattle.sequential.specs.Sequential.{ruleOf, valueOf, valuesOf}
 use Rattle.execution.specs.declared.Move as asked
 use Rattle.execution.specs.declared.Move.the-variants.{Compute, Deliver}
@@ -58,16 +58,29 @@ answerOf s values (refuse number) = Refused number
 answerOf s values (iteration k) = Computed (record { rank = k; value = valueOf (ruleOf s) s values k })
 answerOf s values (message k i) = Delivered (record { rank = k; dependence = i })
 
+-- ---- moves on an accepted nest, with an entry for each of its iterations in every buffer
+
+-- each buffer has an entry for each of n iterations
+abbrev pub Room : ℕ → Layout → State ℕ → Type 0
+Room n L st = (n ≤ length (L .steps)) × (n ≤ length (L .processors)) × (n ≤ length (st .values))
+    × (n ≤ length (st .done)) × (n ≤ length (st .delivered))
+
+-- r is what the rules answer to a move
+abbrev pub Answers : LoopNest → Layout → State ℕ → Move → Answer → Type 0
+Answers s L st mv r = r ≡ answerOf s (st .values) (effect s (stateView L st) mv)
+
+-- st′ is what they leave
+abbrev pub Leaves : LoopNest → Layout → State ℕ → Move → State ℕ → Type 0
+Leaves s L st mv st′ = st′ ≡ after (ruleOf s) s st (effect s (stateView L st) mv)
+
 -- ---- deliveries
 
 -- what a delivery answers and leaves, whatever the steps and the values are
 abbrev pub Delivers : LoopNest → List ℕ → List ℕ → List ℕ → ℕ → ℕ → Answer → List ℕ → Type 0
 Delivers s processors done delivered k i r delivered′ =
-    ((steps values : List ℕ) → r ≡ answerOf s values (effect s (viewIn steps processors done delivered) (deliver k i)))
+    ((steps values : List ℕ) → Answers s (layoutIn steps processors) (stateIn values done delivered) (deliver k i) r)
     × ((steps values : List ℕ)
-    → stateIn values done delivered′
-    ≡ after (ruleOf s) s (stateIn values done delivered)
-    (effect s (viewIn steps processors done delivered) (deliver k i)))
+    → Leaves s (layoutIn steps processors) (stateIn values done delivered) (deliver k i) (stateIn values done delivered′))
 
 -- the same where the rank j of the source is known, which is n or more where there is none: the
 -- message can be delivered

@@ -11,11 +11,9 @@ ghost use lib.ListN.{length};
 ghost use Rattle.nest.specs.Nest.{toℕ, maxCube, maxDependences};
 ghost use Rattle.nest.specs.Points.{pointsOf};
 ghost use Rattle.nest.specs.Refusals.{refusal, orElse, shortBuffer, noRoom};
-ghost use Rattle.sequential.specs.Sequential.{ruleOf};
-ghost use Rattle.execution.specs.Rules.{compute, deliver, effect};
-ghost use Rattle.execution.specs.Run.{after};
-ghost use Rattle.execution.specs.Entry.{layoutIn, stateIn, viewIn, moveOf, answerOf, Makes, Delivers, readyFrom};
-ghost use Rattle.execution.specs.Entry.{deliveryAnswer, deliveryLeft};
+ghost use Rattle.execution.specs.Rules.{compute};
+ghost use Rattle.execution.specs.Entry.{layoutIn, stateIn, moveOf, Room, Answers, Leaves, Makes, Delivers};
+ghost use Rattle.execution.specs.Entry.{readyFrom, deliveryAnswer, deliveryLeft};
 
 // waiting: compute, a source is not there
 pub const WAITING: u8 = 15;
@@ -97,15 +95,12 @@ pub fn compute(
     delivered: &[u8],
 ) -> Answer
     requires { ⌜ (refusal s ≡ 0) × (n ≡ length (pointsOf s)) ⌝ }
-    requires { ⌜ (n ≤ length (now steps)) × (n ≤ length (now processors)) × (n ≤ length (now values))
-        × (n ≤ length (now done)) × (n ≤ length (now delivered)) ⌝ }
-    ensures { λ r. ⌜ r ≡ answerOf s (now (values .entry))
-        (effect s (viewIn (now (steps .entry)) (now (processors .entry)) (now (done .entry)) (now (delivered .entry)))
-        (compute p)) ⌝ }
-    ensures { λ r. ⌜ stateIn (now (values .exit)) (now (done .exit)) (now (delivered .entry))
-        ≡ after (ruleOf s) s (stateIn (now (values .entry)) (now (done .entry)) (now (delivered .entry)))
-        (effect s (viewIn (now (steps .entry)) (now (processors .entry)) (now (done .entry)) (now (delivered .entry)))
-        (compute p)) ⌝ }
+    requires { ⌜ Room n (layoutIn (now steps) (now processors)) (stateIn (now values) (now done) (now delivered)) ⌝ }
+    ensures { λ r. ⌜ Answers s (layoutIn (now (steps .entry)) (now (processors .entry)))
+        (stateIn (now (values .entry)) (now (done .entry)) (now (delivered .entry))) (compute p) r ⌝ }
+    ensures { λ r. ⌜ Leaves s (layoutIn (now (steps .entry)) (now (processors .entry)))
+        (stateIn (now (values .entry)) (now (done .entry)) (now (delivered .entry))) (compute p)
+        (stateIn (now (values .exit)) (now (done .exit)) (now (delivered .entry))) ⌝ }
 {
     if processors_in(s) <= p {
         return Answer::Refused(NO_SUCH_PLACE);

@@ -9,10 +9,7 @@ use execution::Move;
 use execution::NO_SUCH_PLACE;
 use nest::LoopNest;
 ghost use mathlib.Core.Path.{_≡_};
-ghost use Rattle.execution.specs.Entry.{numberOf, layoutIn, stateIn, viewIn, moveOf, answerOf, Delivers, Makes};
-ghost use Rattle.execution.specs.Rules.{effect};
-ghost use Rattle.execution.specs.Run.{after};
-ghost use Rattle.sequential.specs.Sequential.{ruleOf};
+ghost use Rattle.execution.specs.Entry.{numberOf, layoutIn, stateIn, moveOf, Room, Answers, Leaves, Delivers, Makes};
 ghost use Rattle.numbers.specs.Numbers.{moveIn, madeIn, nestIn};
 ghost use Prim.Native.Nat.{_≤_};
 ghost use lib.ListN.{length};
@@ -104,18 +101,12 @@ fn move_on(
     delivered: &mut [u8],
 ) -> Answer
     requires { ⌜ (refusal (nestIn (now numbers)) ≡ 0) × (n ≡ length (pointsOf (nestIn (now numbers)))) ⌝ }
-    requires { ⌜ (n ≤ length (now steps)) × (n ≤ length (now processors)) × (n ≤ length (now values))
-        × (n ≤ length (now done)) × (n ≤ length (now delivered)) ⌝ }
-    ensures { λ r. ⌜ r ≡ answerOf (nestIn (now (numbers .entry))) (now (values .entry))
-        (effect (nestIn (now (numbers .entry)))
-        (viewIn (now (steps .entry)) (now (processors .entry)) (now (done .entry)) (now (delivered .entry)))
-        (moveOf what)) ⌝ }
-    ensures { λ r. ⌜ stateIn (now (values .exit)) (now (done .exit)) (now (delivered .exit))
-        ≡ after (ruleOf (nestIn (now (numbers .entry)))) (nestIn (now (numbers .entry)))
-        (stateIn (now (values .entry)) (now (done .entry)) (now (delivered .entry)))
-        (effect (nestIn (now (numbers .entry)))
-        (viewIn (now (steps .entry)) (now (processors .entry)) (now (done .entry)) (now (delivered .entry)))
-        (moveOf what)) ⌝ }
+    requires { ⌜ Room n (layoutIn (now steps) (now processors)) (stateIn (now values) (now done) (now delivered)) ⌝ }
+    ensures { λ r. ⌜ Answers (nestIn (now (numbers .entry))) (layoutIn (now (steps .entry)) (now (processors .entry)))
+        (stateIn (now (values .entry)) (now (done .entry)) (now (delivered .entry))) (moveOf what) r ⌝ }
+    ensures { λ r. ⌜ Leaves (nestIn (now (numbers .entry))) (layoutIn (now (steps .entry)) (now (processors .entry)))
+        (stateIn (now (values .entry)) (now (done .entry)) (now (delivered .entry))) (moveOf what)
+        (stateIn (now (values .exit)) (now (done .exit)) (now (delivered .exit))) ⌝ }
 {
     match what {
         Move::Compute(p) => {

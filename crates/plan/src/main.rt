@@ -1,5 +1,5 @@
-// The planning program: reads the text of a loop nest from standard input and prints its plan, or the number of the first refusal alone (document 01, "A listing in
-// full").
+// The planning program: reads the text of a loop nest from standard input and prints its plan, or
+// the number of the first refusal alone (document 01, "A listing in full").
 use libc::STDIN_FILENO;
 use libc::STDOUT_FILENO;
 ghost use mathlib.Core.Path.{_≡_};
@@ -18,7 +18,8 @@ const MOST_READ: usize = 285;
 // the bytes of the longest listing: 31 for each of 4096 iterations, and for the counts
 const MOST_PRINTED: usize = 127007;
 
-// The buffer that the text is read into. It has room for so many bytes of an input that they decide what is printed.
+// The buffer that the text is read into. It has room for so many bytes of an input that they decide
+// what is printed.
 fn input_buffer() -> [u8; MOST_READ]
     ensures { λ r. ⌜ 285 ≡ length r ⌝ }
     ensures { λ r. ⌜ ((text : List ℕ) → listing (take (length r) text) ≡ listing text) ⌝ }
@@ -35,7 +36,8 @@ fn put_number(out: &mut [u8], x: u8) -> usize
     nest_text::put_line(out, 0, &numbers, 0, 1)
 }
 
-// Writes what is printed for a text into a buffer that has room for the longest listing; answers how many bytes that is.
+// Writes what is printed for a text into a buffer that has room for the longest listing; answers
+// how many bytes that is.
 fn put_listing(text: &[u8], out: &mut [u8]) -> usize
     requires { ⌜ 127007 ≤ length (now out) ⌝ }
     ensures { λ r. ⌜ Stored (now (out .entry)) 0 (listing (now (text .entry))) (now (out .exit)) r ⌝ }

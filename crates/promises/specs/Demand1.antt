@@ -1,6 +1,6 @@
--- Demand 1 (document 00): whoever calls, with any nest, table or move, gets a plan, a table, a move done or one refusal
--- from the list; a refusal changes no lent byte. It is said of every entry, by what its contract promises.
--- Assumes nothing.
+-- Demand 1 (document 00): whoever calls, with any nest, table or move, gets a plan, a table, a move
+-- done or one refusal from the list; a refusal changes no lent byte. It is said of every entry, by
+-- what its contract promises. Assumes nothing.
 use mathlib.Core.Path.{_≡_}
 use mathlib.Core.List.{List, [], _∷_, _++_, List·Memᴰ}
 use mathlib.Core.Logic.{_≢_, _↔_}
@@ -24,7 +24,8 @@ use Rattle.execution.specs.declared.Move as asked
 use Rattle.execution.specs.Entry.{moveOf, numberOf, Makes}
 use Rattle.numbers.specs.Numbers.{numbersOf, ReadsInto, MakesInto}
 
--- ---- the refusals of document 01 that each call has, by their numbers, in the order in which they are tested
+-- ---- the refusals of document 01 that each call has, by their numbers, in the order in which they
+-- are tested
 
 -- of a nest and a lent buffer: 2 to 14
 abbrev pub bufferNumbers : List ℕ
@@ -45,9 +46,10 @@ moveNumbers (deliver k i) = nestNumbers ++ (14 ∷ 18 ∷ 16 ∷ [])
 
 -- ---- one outcome
 
--- A call promises P of its outcome, which is what it answers and what it leaves in its buffers; `number` is the number
--- answered.
-pub record OneOutcome {A : Type 0} (P : A → Type 0) (number : A → ℕ) (listed : List ℕ) (Untouched : A → Type 0) : Type 0 where
+-- A call promises P of its outcome, which is what it answers and what it leaves in its buffers;
+-- `number` is the number answered.
+pub record OneOutcome {A : Type 0} (P : A → Type 0) (number : A → ℕ) (listed : List ℕ)
+    (Untouched : A → Type 0) : Type 0 where
   -- there is an outcome that the promise allows, and no other
   pub outcome : A
   pub promised : P outcome
@@ -93,8 +95,8 @@ pub record Demand1 : Type 0 where
   pub move : (s : LoopNest) (L : Layout) (st : State ℕ) (mv : Move)
       → OneOutcome (λ (o : Answer × State ℕ). Makes s L st mv (o .0) (o .1)) (λ o. numberOf (o .0)) (moveNumbers mv)
       (λ o. o .1 ≡ st)
-  -- the two exported functions whose promises are not an entry's word for word: they store as numbers what the entry
-  -- answers
+  -- the two exported functions whose promises are not an entry's word for word: they store as
+  -- numbers what the entry answers
   pub read-into : (text : Bytes)
       → OneOutcome (λ (o : ℕ × List ℤ). ReadsInto text (o .0) (o .1)) (λ o. o .0) textNumbers
       (λ o. o .1 ≡ numbersOf emptyNest)

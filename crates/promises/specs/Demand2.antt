@@ -1,9 +1,9 @@
--- Demand 2 (document 00): an accepted nest's steps, blocks, processors, counts and values are those of the published
--- projection, grouping and Gray numbering, with the free choices fixed in document 01; each iteration is in one block, no
--- two iterations of a block are at one step, every dependence leads to a later step. A refusal comes under its stated
--- condition and no other. A nest read and written is the same nest, as text and as numbers. It is said of what calls of
--- the entries answer and leave.
--- Assumes nothing.
+-- Demand 2 (document 00): an accepted nest's steps, blocks, processors, counts and values are those
+-- of the published projection, grouping and Gray numbering, with the free choices fixed in document
+-- 01; each iteration is in one block, no two iterations of a block are at one step, every
+-- dependence leads to a later step. A refusal comes under its stated condition and no other. A nest
+-- read and written is the same nest, as text and as numbers. It is said of what calls of the
+-- entries answer and leave. Assumes nothing.
 use mathlib.Core.Path.{_≡_}
 use mathlib.Core.List.{List, _++_, map}
 use mathlib.Core.Logic.{_↔_}
@@ -49,14 +49,16 @@ at table k = getD table k 0
 abbrev pub leastProduct : LoopNest → ℤ
 leastProduct s = leastZ (map (dots (timeOf s)) (pointsOf s))
 
--- how many pairs of an iteration and a dependence are messages: the source is an iteration on another processor
+-- how many pairs of an iteration and a dependence are messages: the source is an iteration on
+-- another processor
 abbrev pub messagePairs : LoopNest → ℕ
 messagePairs s =
     count (λ q. isMessage s (processorsOf s) (q .0) (q .1)) (pairs (lib.ListN.length (pointsOf s)) (countOf s))
 
 -- A call of `plan` that was not refused found the tables `old`, answered p and left the tables t.
 pub record IsPlan (s : LoopNest) (old : Tables) (p : Planning) (t : Tables) : Type 0 where
-  -- the tables hold the method's steps, blocks, processors and values, and behind them what they held before
+  -- the tables hold the method's steps, blocks, processors and values, and behind them what they
+  -- held before
   pub steps : t .steps ≡ stepsOf s ++ behind s (old .steps)
   pub blocks : t .blocks ≡ blocksOf s ++ behind s (old .blocks)
   pub processors : t .processors ≡ processorsOf s ++ behind s (old .processors)
@@ -66,11 +68,12 @@ pub record IsPlan (s : LoopNest) (old : Tables) (p : Planning) (t : Tables) : Ty
   pub step : (k : ℕ) → Iteration s k → dots (timeOf s) (point s k) ≡ leastProduct s +ℤ pos (at (t .steps) k)
   pub step-below : (k : ℕ) → Iteration s k → at (t .steps) k < p .steps
   pub step-last : (k : ℕ) × Iteration s k × (suc (at (t .steps) k) ≡ p .steps)
-  -- each iteration is in exactly one block: its entry; the numbers from 0 to the count less 1 are each used, in the order
-  -- of the first iterations
+  -- each iteration is in exactly one block: its entry; the numbers from 0 to the count less 1 are
+  -- each used, in the order of the first iterations
   pub block-below : (k : ℕ) → Iteration s k → at (t .blocks) k < p .blocks
   pub block-used : (b : ℕ) → b < p .blocks → (k : ℕ) × Iteration s k × (at (t .blocks) k ≡ b)
-  pub block-order : (k : ℕ) → Iteration s k → (b : ℕ) → b < at (t .blocks) k → (j : ℕ) × (j < k) × (at (t .blocks) j ≡ b)
+  pub block-order : (k : ℕ) → Iteration s k → (b : ℕ) → b < at (t .blocks) k
+      → (j : ℕ) × (j < k) × (at (t .blocks) j ≡ b)
   -- a block is all iterations projected into one group
   pub one-group : (j k : ℕ) → Iteration s j → Iteration s k
       → (at (t .blocks) j ≡ at (t .blocks) k) ↔ (groupAt s j ≡ groupAt s k)
@@ -104,8 +107,8 @@ pub record SameText : Type 0 where
 
 -- ---- refusals
 
--- a call answers k exactly if k is what its order of refusals says: the number of the first whose condition is met, 0
--- where none is
+-- a call answers k exactly if k is what its order of refusals says: the number of the first whose
+-- condition is met, 0 where none is
 abbrev pub Exactly : Order → ℕ → Type 0
 Exactly order number = (k : ℕ) → (number ≡ k) ↔ Answered order k
 

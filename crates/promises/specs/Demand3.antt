@@ -1,8 +1,7 @@
--- Demand 3 (document 00): whatever pace the processors keep, a list of moves from a fresh state on a nest's own
--- plan answers, computes and delivers what document 01's reference machine does, and ends in the table of the
--- sequential loop. It is said of what calls of the entries answered and left, with nothing taken from the statement
--- that `execution` proves.
--- Assumes nothing.
+-- Demand 3 (document 00): whatever pace the processors keep, a list of moves from a fresh state on
+-- a nest's own plan answers, computes and delivers what document 01's reference machine does, and
+-- ends in the table of the sequential loop. It is said of what calls of the entries answered and
+-- left, with nothing taken from the statement that `execution` proves. Assumes nothing.
 use mathlib.Core.Path.{_≡_}
 use mathlib.Core.Bool.{true, false}
 use mathlib.Core.List.{List, [], _∷_, _++_, map}
@@ -34,13 +33,15 @@ use Rattle.promises.specs.Iterations.{Iteration, behind}
 abbrev pub PlanMessage : LoopNest → ℕ → ℕ → Type 0
 PlanMessage s k i = Iteration s k × (i < countOf s) × Message s (layoutOf s .processors) k i
 
--- the reference machine, nothing computed or delivered at first, answers the moves so and then holds b
+-- the reference machine, nothing computed or delivered at first, answers the moves so and then
+-- holds b
 abbrev pub Reference : {A : Type 0} → (Effect → A) → LoopNest → List Move → List A → Machine → Type 0
 Reference tell s ms told b = SaysList tell s (layoutOf s) freshMachine ms told b
 
 -- ---- from what a list of moves starts
 
--- fresh: the state has an entry for each iteration, and the iterations' done and delivered bytes are all 0
+-- fresh: the state has an entry for each iteration, and the iterations' done and delivered bytes
+-- are all 0
 pub record FreshState {Val : Type 0} (s : LoopNest) (st : State Val) : Type 0 where
   pub value-each : length (pointsOf s) ≤ length (st .values)
   pub done-each : length (pointsOf s) ≤ length (st .done)
@@ -48,7 +49,8 @@ pub record FreshState {Val : Type 0} (s : LoopNest) (st : State Val) : Type 0 wh
   pub done-zero : (k : ℕ) → Iteration s k → getD (st .done) k 0 ≡ 0
   pub delivered-zero : (k : ℕ) → Iteration s k → getD (st .delivered) k 0 ≡ 0
 
--- the tables L are the step and processor tables that a call of `plan` left, which was not refused and answered p
+-- the tables L are the step and processor tables that a call of `plan` left, which was not refused
+-- and answered p
 pub record OnPlan (s : LoopNest) (p : Planning) (L : Layout) : Type 0 where
   pub old : Tables
   pub new : Tables
@@ -71,9 +73,9 @@ module _ {Val : Type 0} (R : Rule Val) (s : LoopNest) where
     delivered = set (st .delivered) k (getD (st .delivered) k 0 + 2 ^ i);
   }
 
-  -- A move that finds the machine b and the state st is answered a number and leaves another machine and state: it
-  -- computes one missing iteration, or delivers one message that was not delivered, or is refused, with one of the
-  -- numbers 15 to 18, and changes nothing.
+  -- A move that finds the machine b and the state st is answered a number and leaves another
+  -- machine and state: it computes one missing iteration, or delivers one message that was not
+  -- delivered, or is refused, with one of the numbers 15 to 18, and changes nothing.
   pub data OneMove (b : Machine) (st : State Val) : ℕ → Machine → State Val → Type 0 where
     computes-one : (k : ℕ) (x : Val) → Iteration s k → b .computed k ≡ false
         → ((d : Val) → x ≡ getD (sequential R s) k d)
@@ -88,18 +90,19 @@ module _ {Val : Type 0} (R : Rule Val) (s : LoopNest) where
     abbrev pub NothingAllowed : State Val → Type 0
     NothingAllowed st = (mv : Move) (a : ℕ) (st′ : State Val) → MoveCall R s L st mv a st′ → a ≢ 0
 
-    -- no iteration is missing and every message is delivered, the table is the sequential loop's, and allowed moves =
-    -- iterations + messages, as `plan` counted them
+    -- no iteration is missing and every message is delivered, the table is the sequential loop's,
+    -- and allowed moves = iterations + messages, as `plan` counted them
     pub record Finished (b : Machine) (numbers : List ℕ) (last : State Val) : Type 0 where
       pub all-computed : (k : ℕ) → Iteration s k → b .computed k ≡ true
       pub all-delivered : (k i : ℕ) → PlanMessage s k i → b .delivered k i ≡ true
       pub table : last .values ≡ sequential R s ++ behind s (st₀ .values)
       pub all-allowed : allowedCount numbers ≡ p .iterations + p .messages
 
-    -- The moves ms, made from the state st₀ on the tables L of the plan p, were answered these numbers and left the
-    -- state `last`.
+    -- The moves ms, made from the state st₀ on the tables L of the plan p, were answered these
+    -- numbers and left the state `last`.
     pub record Comes (ms : List Move) (numbers : List ℕ) (last : State Val) : Type 0 where
-      -- the numbers are the reference machine's, in order, by document 01's sentences; this is what it then holds
+      -- the numbers are the reference machine's, in order, by document 01's sentences; this is what
+      -- it then holds
       pub machine : Machine
       pub answers : Reference answer s ms numbers machine
       -- a done byte is 1 exactly for a computed iteration; the iterations' others are 0
@@ -120,8 +123,8 @@ module _ {Val : Type 0} (R : Rule Val) (s : LoopNest) where
       pub values-length : length (last .values) ≡ length (st₀ .values)
       pub done-length : length (last .done) ≡ length (st₀ .done)
       pub delivered-length : length (last .delivered) ≡ length (st₀ .delivered)
-      -- a further move, whatever it is, computes one iteration or delivers one message, or is refused and changes
-      -- nothing; the reference machine goes along
+      -- a further move, whatever it is, computes one iteration or delivers one message, or is
+      -- refused and changes nothing; the reference machine goes along
       pub one-more : (mv : Move) (a : ℕ) (st : State Val) → MoveCall R s L last mv a st
           → (b : Machine) × Reference answer s (ms ++ (mv ∷ [])) (numbers ++ (a ∷ [])) b × OneMove machine last a b st
       -- so allowed moves = computed iterations + delivered messages
@@ -129,7 +132,8 @@ module _ {Val : Type 0} (R : Rule Val) (s : LoopNest) where
       -- while an iteration is missing some move is allowed
       pub progress : (k : ℕ) → Iteration s k → machine .computed k ≡ false
           → (mv : Move) × ((a : ℕ) (st : State Val) → MoveCall R s L last mv a st → a ≡ 0)
-      -- so when none is, the table is the sequential loop's and allowed moves = iterations + messages
+      -- so when none is, the table is the sequential loop's and allowed moves = iterations +
+      -- messages
       pub none-allowed : NothingAllowed last → Finished machine numbers last
       -- and so it is when no iteration is missing; then no move is allowed
       pub none-missing : ((k : ℕ) → Iteration s k → machine .computed k ≡ true)
@@ -142,7 +146,8 @@ pub record Demand3 : Type 1 where
       → (st₀ : State Val) → FreshState s st₀
       → (ms : List Move) (numbers : List ℕ) (last : State Val) → Calls R s L st₀ ms numbers last
       → Comes R s p L st₀ ms numbers last
-  -- for calls of `make_move`, whose rule is the weighted sum: all that, and each answer says what the machine did
+  -- for calls of `make_move`, whose rule is the weighted sum: all that, and each answer says what
+  -- the machine did
   pub calls : (s : LoopNest) (p : Planning) (L : Layout) → OnPlan s p L
       → (st₀ : State ℕ) → FreshState s st₀
       → (whats : List asked.Move) (rs : List Answer) (last : State ℕ) → EntryCalls s L st₀ whats rs last
