@@ -1,5 +1,6 @@
--- The steps as they are worked out from the keys of the index points: P·j of each iteration, from the digits of its key, less the least. Nothing here knows
--- limits. Assumes nothing.
+-- Serves the code's inner contracts alone: the steps as they are worked out from the keys of the
+-- index points: P·j of each iteration, from the digits of its key, less the least. Nothing here
+-- knows limits. Assumes nothing.
 use mathlib.Core.List.{List}
 use Prim.Native.Nat.{ℕ, _*_, _<_, _≤_}
 use lib.IntN.{ℤ, pos, natAbs, _+ℤ_}

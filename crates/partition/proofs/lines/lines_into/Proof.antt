@@ -23,11 +23,11 @@ abbrev before : List ℤ → List ℤ → ℕ → ℕ
 before keys distances k = sourceIn keys k (getD distances 0 (pos 0))
 
 abbrev Inv-loop : tie.InvT-loop
-Inv-loop keys distance heads₀ lines₀ n distances cursors₀ count₀ k₀ heads lines cursors count k =
-    (k ≤ n) × Lined (before keys distances) lines₀ heads lines count k × (length heads ≡ length heads₀) × (k < n → Behind keys distances k 1 cursors)
+Inv-loop keys distance heads₀ lines₀ many distances cursors₀ count₀ k₀ heads lines cursors count k =
+    (k ≤ many) × Lined (before keys distances) lines₀ heads lines count k × (length heads ≡ length heads₀) × (k < many → Behind keys distances k 1 cursors)
 
 abbrev μ-loop : tie.MeasureT-loop
-μ-loop keys distance heads₀ lines₀ n distances cursors₀ count₀ k₀ heads lines cursors count k = n - k
+μ-loop keys distance heads₀ lines₀ many distances cursors₀ count₀ k₀ heads lines cursors count k = many - k
 
 -- the distances: that along the line, and no other
 abbrev ds : tie.Start Inv-loop μ-loop → List ℤ

@@ -14,21 +14,21 @@ abbrev to : List ℕ → List ℕ → ℕ → ℕ
 to numbers table₀ k = getD numbers (getD table₀ k 0) 0
 
 abbrev Inv-loop : tie.InvT-loop
-Inv-loop numbers table₀ n k₀ table k = (k ≤ n) × (table ≡ filledTo (to numbers table₀) table₀ k)
+Inv-loop numbers table₀ count k₀ table k = (k ≤ count) × (table ≡ filledTo (to numbers table₀) table₀ k)
 
 abbrev μ-loop : tie.MeasureT-loop
-μ-loop numbers table₀ n k₀ table k = n - k
+μ-loop numbers table₀ count k₀ table k = count - k
 
 loop-holds : tie.Need-loop-holds Inv-loop μ-loop
 loop-holds c = (omega arith, filled-none (to (c .args .numbers .now) (c .args .table .now)) (c .args .table .now))
 
 -- entry k is still the old one, and leads to a number
-here : (d : tie.At-loop Inv-loop μ-loop) → d .loop .k < d .before .args .n → getD (d .loop .table) (d .loop .k) 0 ≡ getD (d .before .args .table .now) (d .loop .k) 0
+here : (d : tie.At-loop Inv-loop μ-loop) → d .loop .k < d .before .args .count → getD (d .loop .table) (d .loop .k) 0 ≡ getD (d .before .args .table .now) (d .loop .k) 0
 here d h =
     let a = d .before .args in
     ap (λ (l : List ℕ). getD l (d .loop .k) 0) (d .loop .inv .1) ∙ filled-next (to (a .numbers .now) (a .table .now)) (a .table .now) (d .loop .k) 0 (omega (arith, h, d .before .pre .0))
 
-leads : (d : tie.At-loop Inv-loop μ-loop) → d .loop .k < d .before .args .n → getD (d .loop .table) (d .loop .k) 0 < length (d .before .args .numbers .now)
+leads : (d : tie.At-loop Inv-loop μ-loop) → d .loop .k < d .before .args .count → getD (d .loop .table) (d .loop .k) 0 < length (d .before .args .numbers .now)
 leads d h = omega (arith, here d h, d .before .pre .2 (d .loop .k) h)
 
 -- the table keeps its length

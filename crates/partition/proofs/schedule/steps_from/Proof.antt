@@ -17,10 +17,10 @@ abbrev to : List ℕ → ℕ → ℕ → ℕ
 to steps₀ least k = getD steps₀ k 0 - least
 
 abbrev Inv-loop : tie.InvT-loop
-Inv-loop steps₀ n least last₀ k₀ steps last k = (k ≤ n) × Stepped (to steps₀ least) steps₀ steps last k
+Inv-loop steps₀ count least last₀ k₀ steps last k = (k ≤ count) × Stepped (to steps₀ least) steps₀ steps last k
 
 abbrev μ-loop : tie.MeasureT-loop
-μ-loop steps₀ n least last₀ k₀ steps last k = n - k
+μ-loop steps₀ count least last₀ k₀ steps last k = count - k
 
 abbrev At : Type 0
 At = tie.At-loop Inv-loop μ-loop
@@ -35,13 +35,13 @@ long l =
     ap (λ (v : List ℕ). length v) (l .loop .inv .1 .table) ∙ filled-length (to (d .args .steps .now) (d .args .least)) (d .args .steps .now) (l .loop .k) (omega (arith, l .loop .inv .0, d .pre .0))
 
 -- entry k is still the old one
-here : (l : At) → l .loop .k < start l .args .n → getD (l .loop .steps) (l .loop .k) 0 ≡ getD (start l .args .steps .now) (l .loop .k) 0
+here : (l : At) → l .loop .k < start l .args .count → getD (l .loop .steps) (l .loop .k) 0 ≡ getD (start l .args .steps .now) (l .loop .k) 0
 here l h =
     let d = start l in
     ap (λ (v : List ℕ). getD v (l .loop .k) 0) (l .loop .inv .1 .table) ∙ filled-next (to (d .args .steps .now) (d .args .least)) (d .args .steps .now) (l .loop .k) 0 (omega (arith, h, d .pre .0))
 
 -- it is no less than the least, and small
-span : (l : At) → l .loop .k < start l .args .n → (start l .args .least ≤ getD (l .loop .steps) (l .loop .k) 0) × (getD (l .loop .steps) (l .loop .k) 0 ≤ 2 * maxProduct)
+span : (l : At) → l .loop .k < start l .args .count → (start l .args .least ≤ getD (l .loop .steps) (l .loop .k) 0) × (getD (l .loop .steps) (l .loop .k) 0 ≤ 2 * maxProduct)
 span l h = let p = start l .pre .1 (l .loop .k) h in let e = here l h in (omega (arith, p .0, e), omega (arith, p .1, e))
 
 loop-holds : tie.Need-loop-holds Inv-loop μ-loop
@@ -97,7 +97,7 @@ returns c =
     let d = start l in
     let S = l .loop .inv .1 in
     let f = to (d .args .steps .now) (d .args .least) in
-    let e : l .loop .k ≡ d .args .n = omega (arith, l .loop .inv .0, c .loop-test .left) in
+    let e : l .loop .k ≡ d .args .count = omega (arith, l .loop .inv .0, c .loop-test .left) in
     (ap (λ i. i + 1) (S .most ∙ ap (λ i. greatest (tab f i)) e), S .table ∙ ap (λ i. tab f i ++ drop i (d .args .steps .now)) e)
 
 pub steps-from-spec : {M : Type 1} → statement M
