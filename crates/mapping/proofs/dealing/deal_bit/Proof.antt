@@ -17,7 +17,7 @@ Inv-loop turn width bits k₀ asked₀ k asked = Asking width bits turn asked k
 abbrev μ-loop : tie.MeasureT-loop
 μ-loop turn width bits k₀ asked₀ k asked = maxDepth - asked
 
--- the turn is one of three, whose bits are few
+-- the turn is a direction, whose bits are few
 turn-below : (c : tie.In-loop Inv-loop μ-loop) → c .before .loop .k < maxDepth
 turn-below c = c .before .loop .inv .turn-is
 
