@@ -11,8 +11,8 @@ use native.Mathlib.Omega.{arith}
 use lib.Dec.{ltb, eqb}
 use lib.Pow.{pow-mono}
 use borrow.Author.Tests.{ltb-true, ltb-false, eqb-true, eqb-false}
-use Rattle.integers.specs.Lists.{tab, tab-same, split, clash, and-true, or-true}
-use Rattle.mapping.specs.Mapping.{total}
+use Rattle.integers.specs.Lists.{tab, total}
+use Rattle.integers.proofs.Lists.{tab-same, split, clash, and-true, or-true}
 use Rattle.mapping.specs.GroupNumbers.{oneIf}
 use Rattle.mapping.proofs.Messages.{count-tab-more, count-none, total-tab-more, total-none}
 use Rattle.execution.specs.Rules.{every, better, least}

@@ -25,7 +25,7 @@ use Rattle.execution.specs.Entry.{layoutIn, stateIn, viewIn, rankOr, num
 use Rattle.execution.proofs.Base.{eq?, every-same}
 use Rattle.execution.proofs.RuleLaws.{effect-number, Numbered, move-refused, move-rules, taking-none, taking-ready, taking-waits, delivering-ready, delivering-refused, compute-there, compute-nowhere, deliver-there, deliver-nowhere, message-some, not-ready}
 use Rattle.execution.proofs.FindingLaws.{takenOf, taken-none, taken-some}
-use Rattle.integers.specs.Lists.{below-or-not}
+use Rattle.integers.proofs.Lists.{below-or-not}
 use lib.Dec.{eqb}
 use Rattle.nest.proofs.PointLaws.{rank-found, rank-none}
 

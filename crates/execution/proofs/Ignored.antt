@@ -7,7 +7,7 @@ use Prim.Native.Nat.{ℕ, _^_}
 use borrow.Author.Tests.{eqb-true, eqb-false}
 use lib.Dec.{eqb, ltb}
 use lib.ListN.{length}
-use Rattle.integers.specs.Lists.{split}
+use Rattle.integers.proofs.Lists.{split}
 use Rattle.nest.specs.declared.LoopNest.{LoopNest}
 use Rattle.nest.specs.Nest.{toℕ, cleared}
 use Rattle.nest.specs.Refusals.{refusal, orElse, shortBuffer, noRoom}

@@ -11,12 +11,13 @@ use native.Mathlib.Omega.{arith}
 use borrow.Author.Tests.{eqb-true, eqb-false, eq-eqb, ne-eqb, not-true, not-false}
 use lib.Dec.{eqb}
 use lib.ListN.{length, getD}
-use Rattle.integers.specs.Lists.{tab, count, split, clash, or-right, count-yes, count-no, length-tab}
+use Rattle.integers.specs.Lists.{tab, count, total}
+use Rattle.integers.proofs.Lists.{split, clash, or-right, count-yes, count-no, length-tab}
 use Rattle.nest.specs.declared.LoopNest.{LoopNest}
 use Rattle.nest.specs.Nest.{toℕ, countOf}
 use Rattle.nest.specs.Points.{pointsOf}
 use Rattle.nest.specs.Sources.{sourceRank}
-use Rattle.mapping.specs.Mapping.{isMessage, total}
+use Rattle.mapping.specs.Mapping.{isMessage}
 use Rattle.mapping.specs.GroupNumbers.{oneIf}
 use Rattle.mapping.proofs.Messages.{count-most, total-most}
 use Rattle.execution.specs.Rules.{every, least, Move, compute, deliver, Effect, refuse, iteration, message, answer, Layout, View, stepIn, processorIn, waits, there, sourceDone, taking, effect, ready}

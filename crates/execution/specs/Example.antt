@@ -5,7 +5,7 @@
 use mathlib.Core.Path.{_≡_, refl}
 use mathlib.Core.List.{List, [], _∷_, flatMap, zipWith}
 use Prim.Native.Nat.{ℕ}
-use Rattle.integers.specs.Lists.{any, all, first, place, firstsAfter, firsts, count, repeats, tab, greatest, firstFrom}
+use Rattle.integers.specs.Lists.{any, all, first, place, firstsAfter, firsts, count, repeats, tab, greatest, firstFrom, total}
 use Rattle.integers.specs.Vector.{dots, plus, times, eqZ, eqV, isZeroV}
 use Rattle.integers.specs.Division.{floorDiv}
 use Rattle.nest.specs.Nest.{toℕ, part, limitsOf, timeOf, dependencesOf, weightsOf, padded, nestOf}
@@ -22,7 +22,7 @@ use Rattle.grouping.specs.Grouping.{coordinates, seeds, eqG, quotients, classNu
 use Rattle.mapping.specs.Mapping.{inOrder, direction, undealt, takesBit, withBit as dealtBit, noDirection, nextTurn}
 use Rattle.mapping.specs.Mapping.{dealBit, dealBits, dealt, gray, partOf, joined, processor, directionsOf, processorsOf}
 use Rattle.mapping.specs.Mapping.{crosses, isMessage}
-use Rattle.sequential.specs.Sequential.{sourceValue, valueOf, sum, weightedSum, ruleOf}
+use Rattle.sequential.specs.Sequential.{sourceValue, valueOf, weightedSum, ruleOf}
 use Rattle.planner.specs.Examples.{vector, listed}
 use Rattle.execution.specs.Rules.{every, better, least, Move, compute, deliver, Layout, taking, delivering}
 use Rattle.execution.specs.Rules.{effect}
@@ -77,7 +77,7 @@ example-allowed = refl
 pub example-answers : answers (ruleOf listed) listed exampleLayout exampleState exampleMoves ≡ exampleAnswers
 unfolding any place count tab dots plus times eqZ eqV toℕ part limitsOf timeOf dependencesOf weightsOf padded nestOf
     extent indices points pointsOf pointCount rank isPoint source number outside crossed outOfSpan backward holds
-    firstMet refusal repeats orElse shortBuffer sourceRank crosses isMessage sourceValue valueOf sum weightedSum ruleOf
+    firstMet refusal repeats orElse shortBuffer sourceRank crosses isMessage sourceValue valueOf total weightedSum ruleOf
     vector listed flatMap zipWith every better least taking delivering effect moveRefusal moveEffect
 example-answers = refl
 
@@ -89,7 +89,7 @@ pub example-run : run (ruleOf listed) listed exampleLayout exampleState exampleM
 }
 unfolding any place count tab dots plus times eqZ eqV toℕ part limitsOf timeOf dependencesOf weightsOf padded nestOf
     extent indices points pointsOf pointCount rank isPoint source number outside crossed outOfSpan backward holds
-    firstMet refusal repeats orElse shortBuffer sourceRank crosses isMessage sourceValue valueOf sum weightedSum ruleOf
+    firstMet refusal repeats orElse shortBuffer sourceRank crosses isMessage sourceValue valueOf total weightedSum ruleOf
     vector listed flatMap zipWith every better least taking delivering effect moveRefusal moveEffect
 example-run = refl
 

@@ -7,12 +7,12 @@ use mathlib.Core.List.{List, [], _∷_}
 use Prim.Native.Nat.{ℕ}
 use lib.Dec.{eqb}
 use lib.ListN.{length}
-use Rattle.integers.specs.Lists.{tab, count}
+use Rattle.integers.specs.Lists.{tab, count, total}
 use Rattle.nest.specs.declared.LoopNest.{LoopNest}
 use Rattle.nest.specs.Nest.{countOf}
 use Rattle.nest.specs.Points.{pointsOf}
 use Rattle.partition.specs.Partition.{stepsOf}
-use Rattle.mapping.specs.Mapping.{processorsOf, isMessage, total}
+use Rattle.mapping.specs.Mapping.{processorsOf, isMessage}
 use Rattle.execution.specs.Rules.{Move, Effect, refuse, iteration, message, answer, Layout, View, effect}
 
 pub record Machine : Type 0 where

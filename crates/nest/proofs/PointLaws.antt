@@ -12,8 +12,9 @@ use borrow.Author.Tests.{ltb-false}
 use lib.Dec.{ltb}
 use lib.IntN.{ℤ, pos, natAbs}
 use lib.ListN.{length, getD, List·getD-eq-default}
-use Rattle.integers.specs.Lists.{split, below-or-not, length-tab, getD-tab, any-at, place-none, place-below, place-passes}
-use Rattle.integers.specs.Vector.{Vector, eqV, eqV-true, eqV-refl}
+use Rattle.integers.proofs.Lists.{split, below-or-not, length-tab, getD-tab, any-at, place-none, place-below, place-passes}
+use Rattle.integers.specs.Vector.{Vector, eqV}
+use Rattle.integers.proofs.Vector.{eqV-true, eqV-refl}
 use Rattle.nest.specs.declared.LoopNest.{LoopNest}
 use Rattle.nest.specs.Nest.{part, padded, depthOf, countOf, limitAt, limitsOf, maxDepth, maxLimit, maxIterations}
 use Rattle.nest.specs.Points.{pointsOf, point, rank, isPoint, source, Before}

@@ -8,7 +8,8 @@ use native.Mathlib.Omega.{arith}
 use lib.IntN.{ℤ, pos, _+ℤ_, _-ℤ_}
 use lib.ListN.{length, getD, take, drop}
 use lib.Seq.{take-all, take-append-seam, getD-take, getD-at}
-use Rattle.integers.specs.Lists.{tab, length-tab, tab-drop, tab-end}
+use Rattle.integers.specs.Lists.{tab}
+use Rattle.integers.proofs.Lists.{length-tab, tab-drop, tab-end}
 use Rattle.integers.specs.Vector.{Vector}
 use Rattle.nest.specs.Nest.{Limit, toℕ, part}
 use Rattle.nest.specs.Points.{extent, points, pointCount, rank, source, Inside}

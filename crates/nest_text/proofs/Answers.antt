@@ -8,7 +8,7 @@ use Prim.Native.Nat.{ℕ, _<_}
 use native.Mathlib.Omega.{arith}
 use lib.IntN.{ℤ}
 use lib.ListN.{length}
-use Rattle.integers.specs.Lists.{split, clash}
+use Rattle.integers.proofs.Lists.{split, clash}
 use Rattle.nest.specs.declared.LoopNest.{LoopNest}
 use Rattle.nest.specs.Refusals.{Refusal, number, firstMet, headerOrder, bodyOrder, refusal, Condition, Order, Answered, orderNumbers, FromOne, numbered}
 use Rattle.nest.proofs.Answers.{answered-append, one-append, numbered-answered, numbered-one, call-one, buffer-answered}

@@ -10,7 +10,8 @@ use lib.Dec.{eqb, leb, ltb}
 use lib.IntN.{ℤ, pos}
 use lib.ListN.{length, getD, take, drop, length-append, length-take, length-drop, length-replicate, length-map, List·getD-eq-default}
 use lib.Seq.{drop-cons, drop-drop, drop-length, getD-drop, getD-take, take-suc, take-all, length-take-le}
-use Rattle.integers.specs.Lists.{any, tab, length-tab, and-true, split}
+use Rattle.integers.specs.Lists.{any, tab}
+use Rattle.integers.proofs.Lists.{length-tab, and-true, split}
 use Rattle.nest.specs.declared.LoopNest.{LoopNest}
 use Rattle.nest.specs.Nest.{Limit, padded, nestOf, emptyNest, maxDepth, maxDependences}
 use Rattle.nest_text.specs.declared.reader.Line.{Line}

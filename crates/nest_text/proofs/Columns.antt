@@ -6,7 +6,7 @@ use Prim.Native.Nat.{ℕ, _≤_}
 use lib.Dec.{T}
 use lib.IntN.{ℤ, pos, negℤ}
 use lib.Signed.{leZ}
-use Rattle.integers.specs.Linear.{ints}
+use Rattle.integers.proofs.Linear.{ints}
 use Rattle.nest.specs.Nest.{maxLimit, maxComponent}
 use Rattle.nest.proofs.Spans.{Span}
 use Rattle.nest_text.specs.Stored.{InColumns}

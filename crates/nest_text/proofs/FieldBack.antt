@@ -12,7 +12,7 @@ use lib.Dec.{eqb, leb, ltb}
 use lib.IntN.{ℤ, pos, negsuc}
 use lib.ListN.{length, getD, drop, replicate, length-replicate}
 use lib.Seq.{drop-at}
-use Rattle.integers.specs.Lists.{and-true}
+use Rattle.integers.proofs.Lists.{and-true}
 use Rattle.nest_text.specs.declared.fields.Field.the-variants.{Number}
 use Rattle.nest_text.specs.declared.fields.Run.the-variants.{Value, NoDigits}
 use Rattle.nest_text.specs.Fields.{Bytes, columns, space, minus, zeroDigit, nineDigit, sevenDigits, blanksOf, allDigits, valueOf, isDigit, digitsOf, signedOf, readOf, digitsTo, numeralOf, fieldOf, noLeadingZero}

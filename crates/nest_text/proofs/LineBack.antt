@@ -14,7 +14,8 @@ use lib.Dec.{eqb, ltb}
 use lib.IntN.{ℤ, pos}
 use lib.ListN.{length, getD, take, drop, length-append, length-drop, take-append-drop, List·getD-eq-default}
 use lib.Seq.{take-at, drop-at, getD-at, drop-append-add, drop-cons, take-add, length-take-le}
-use Rattle.integers.specs.Lists.{any, tab, clash, split, and-true, length-tab, any-tab-each, any-tab-none, tab-list, flatMap-append, flatMap-one}
+use Rattle.integers.specs.Lists.{any, tab}
+use Rattle.integers.proofs.Lists.{clash, split, and-true, length-tab, any-tab-each, any-tab-none, tab-list, flatMap-append, flatMap-one}
 use Rattle.nest_text.specs.declared.fields.Field.{Field}
 use Rattle.nest_text.specs.declared.fields.Field.the-variants.{Number, Malformed}
 use Rattle.nest_text.specs.Fields.{columns, Bytes, newline, fieldOf, readOf}

@@ -8,7 +8,8 @@ use borrow.Author.Tests.{eq-eqb, ne-eqb}
 use lib.IntN.{ℤ, pos}
 use lib.ListN.{length, getD, set, take, drop, replicate, List·getD-eq-default}
 use lib.Seq.{take-add, take-take, drop-at, length-take-le}
-use Rattle.integers.specs.Lists.{any, tab, tab-more, length-tab, any-tab-more, any-tab-found}
+use Rattle.integers.specs.Lists.{any, tab}
+use Rattle.integers.proofs.Lists.{tab-more, length-tab, any-tab-more, any-tab-found}
 use Rattle.nest.specs.Nest.{padded}
 use Rattle.nest_text.specs.declared.fields.Field.the-variants.{Number, Malformed}
 use Rattle.nest_text.specs.declared.reader.Line.{Line}

@@ -8,7 +8,8 @@ use native.Mathlib.Omega.{arith}
 use lib.IntN.{ℤ, pos}
 use lib.ListN.{length, getD, take, drop, replicate, length-append, length-map, length-replicate, getD-replicate, List·getD-map}
 use lib.Seq.{take-at, drop-at, getD-at}
-use Rattle.integers.specs.Lists.{tab, length-tab, tab-list, map-tab}
+use Rattle.integers.specs.Lists.{tab}
+use Rattle.integers.proofs.Lists.{length-tab, tab-list, map-tab}
 use Rattle.nest.specs.declared.LoopNest.{LoopNest}
 use Rattle.nest.specs.Nest.{Limit, part, depthOf, countOf, limitAt, limitsOf, timeOf, dependenceAt, dependencesOf, weightsOf, nestOf, cleared, maxDepth}
 use Rattle.nest_text.specs.Text.{linesOf, widths, at, nestFrom}

@@ -13,7 +13,7 @@ use borrow.Author.Tests.{eq-eqb, ne-eqb, eqb-true, lt-ltb, ltb-true, le-leb, leb
 use lib.Dec.{eqb, leb, ltb}
 use lib.IntN.{ℤ, pos, negsuc, negℤ}
 use lib.ListN.{length, getD, drop, replicate, length-append, length-replicate, length-map}
-use Rattle.integers.specs.Lists.{and-true, split}
+use Rattle.integers.proofs.Lists.{and-true, split}
 use Rattle.nest_text.specs.declared.fields.Field.the-variants.{Number, Malformed}
 use Rattle.nest_text.specs.declared.fields.Run.{Run}
 use Rattle.nest_text.specs.declared.fields.Run.the-variants.{Value, NoDigits}

@@ -9,7 +9,8 @@ use native.Mathlib.Omega.{arith}
 use lib.IntN.{ℤ, pos}
 use lib.Signed.{leZ, leZ-yes, _≤ℤ_}
 use lib.ListN.{length, getD}
-use Rattle.integers.specs.Lists.{tab, and-true, true-T, map-tab}
+use Rattle.integers.specs.Lists.{tab}
+use Rattle.integers.proofs.Lists.{and-true, true-T, map-tab}
 use Rattle.nest.specs.declared.LoopNest.{LoopNest}
 use Rattle.nest.specs.Nest.{part, depthOf, countOf, limitAt, limitsOf, timeOf, dependenceAt, dependencesOf, weightsOf, cleared, maxDepth}
 use Rattle.nest.specs.Refusals.{firstMet, headerOrder, refusal}

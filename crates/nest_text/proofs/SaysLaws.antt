@@ -6,7 +6,7 @@ use mathlib.Core.Logic.{_↔_}
 use Prim.Native.Nat.{ℕ}
 use borrow.Author.Tests.{eqb-true, eqb-false}
 use lib.Dec.{eqb}
-use Rattle.integers.specs.Lists.{split}
+use Rattle.integers.proofs.Lists.{split}
 use Rattle.nest.specs.declared.LoopNest.{LoopNest}
 use Rattle.nest.specs.Nest.{emptyNest}
 use Rattle.nest.proofs.Answers.{answered-unique}

@@ -7,7 +7,8 @@ use mathlib.Core.List.{List, [], _∷_, List·Memᴰ, List·Memᴰ·head, List·
 use Prim.Native.Nat.{ℕ, _≤_}
 use native.Mathlib.Omega.{arith}
 use lib.ListN.{getD}
-use Rattle.integers.specs.Lists.{any, first, T-true, any-at, any-one, split}
+use Rattle.integers.specs.Lists.{any, first}
+use Rattle.integers.proofs.Lists.{T-true, any-at, any-one, split}
 use Rattle.integers.proofs.ListFacts.{mem-getD, first-passes, first-mem, first-at, first-empty}
 use Rattle.nest_text.specs.Fields.{Bytes}
 use Rattle.nest_text.specs.Text.{isLine, numbersOf, behind, areLines, headerWidth, headerWidths, Shape, widths, shapes, fits, firstFitting, isHeaded, headerWidthOf, headerNumbers, restOf}

@@ -8,7 +8,8 @@ use native.Mathlib.Numerals.{add-one}
 use native.Mathlib.Omega.{arith}
 use lib.IntN.{ℤ, pos}
 use lib.ListN.{length, getD, length-append}
-use Rattle.integers.specs.Lists.{tab, flatMap-append, flatMap-one, flatMap-length, map-tab}
+use Rattle.integers.specs.Lists.{tab}
+use Rattle.integers.proofs.Lists.{flatMap-append, flatMap-one, flatMap-length, map-tab}
 use Rattle.nest.specs.declared.LoopNest.{LoopNest}
 use Rattle.nest.specs.Nest.{Limit, part, depthOf, countOf, limitAt, limitsOf, timeOf, dependenceAt, dependencesOf, weightsOf, maxDepth, maxDependences, maxCube, maxBoundary, maxWeight}
 use Rattle.nest_text.specs.Fields.{Bytes, fieldOf}

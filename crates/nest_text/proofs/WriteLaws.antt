@@ -8,7 +8,8 @@ use native.Mathlib.Omega.{arith}
 use lib.IntN.{ℤ, pos, negsuc}
 use lib.ListN.{length, getD, take, drop, set, replicate, length-append, length-replicate}
 use lib.Seq.{sets, length-sets, sets-eq}
-use Rattle.integers.specs.Lists.{tab, flatMap-tab-more, flatMap-length}
+use Rattle.integers.specs.Lists.{tab}
+use Rattle.integers.proofs.Lists.{flatMap-tab-more, flatMap-length}
 use Rattle.nest.specs.Nest.{part}
 use Rattle.nest_text.specs.Fields.{columns, space, Bytes, numeralOf, fieldOf, newline}
 use Rattle.nest_text.specs.Text.{lineLength, limitWidth, line}

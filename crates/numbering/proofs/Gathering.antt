@@ -8,7 +8,8 @@ use native.Mathlib.Omega.{arith}
 use lib.IntN.{ℤ}
 use lib.ListN.{length, getD}
 use Rattle.integers.specs.Lists.{place, firsts, firstsAfter}
-use Rattle.integers.specs.Vector.{Vector, AllWithin, eqV, eqV-true}
+use Rattle.integers.specs.Vector.{Vector, AllWithin, eqV}
+use Rattle.integers.proofs.Vector.{eqV-true}
 use Rattle.integers.proofs.ListFacts.{length-snoc, place-most, place-true}
 use Rattle.numbering.specs.Tables.{row, rows, putRow}
 use Rattle.numbering.proofs.ByFirst.{firsts-few}

@@ -6,7 +6,8 @@ use native.Mathlib.Omega.{arith}
 use lib.IntN.{ℤ, pos}
 use lib.ListN.{length, getD, set, replicate}
 use lib.Seq.{sets, length-sets}
-use Rattle.integers.specs.Lists.{tab, tab-more, length-tab}
+use Rattle.integers.specs.Lists.{tab}
+use Rattle.integers.proofs.Lists.{tab-more, length-tab}
 use Rattle.nest.specs.declared.LoopNest.{LoopNest}
 use Rattle.nest.specs.Nest.{part}
 use Rattle.numbers.specs.Numbers.{numbersOf}

@@ -7,7 +7,8 @@ use native.Mathlib.Omega.{arith}
 use lib.IntN.{ℤ, pos, natAbs}
 use lib.ListN.{length, getD, take, drop, length-drop}
 use lib.Seq.{getD-take, getD-drop, length-take-le}
-use Rattle.integers.specs.Lists.{any, tab, tab-list}
+use Rattle.integers.specs.Lists.{any, tab}
+use Rattle.integers.proofs.Lists.{tab-list}
 use Rattle.nest.specs.declared.LoopNest.{LoopNest}
 use Rattle.nest.specs.Nest.{part, nestFrom, depthOf, countOf, limitAt, limitsOf, dependenceAt, maxDepth, maxDependences, maxIterations, maxComponent}
 use Rattle.nest.specs.Points.{points, pointsOf, pointCount, rank, source}

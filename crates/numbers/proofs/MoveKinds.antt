@@ -5,7 +5,7 @@ use Prim.Native.Nat.{ℕ}
 use borrow.Author.Tests.{eq-eqb, ne-eqb, eqb-true, eqb-false}
 use lib.Dec.{eqb}
 use lib.Pow.{pow-mono}
-use Rattle.integers.specs.Lists.{split}
+use Rattle.integers.proofs.Lists.{split}
 use Rattle.nest.specs.declared.LoopNest.{LoopNest}
 use Rattle.nest.specs.Refusals.{refusal}
 use Rattle.nest.proofs.Accepted.{cube-is}

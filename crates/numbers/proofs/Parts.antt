@@ -5,7 +5,8 @@ use Prim.Native.Nat.{ℕ, _+_}
 use native.Mathlib.Omega.{arith}
 use lib.IntN.{ℤ, pos}
 use lib.ListN.{length, getD}
-use Rattle.integers.specs.Lists.{tab, tab-list}
+use Rattle.integers.specs.Lists.{tab}
+use Rattle.integers.proofs.Lists.{tab-list}
 use Rattle.nest.specs.declared.LoopNest.{LoopNest}
 use Rattle.nest.specs.Nest.{part}
 use Rattle.numbers.specs.Numbers.{nestIn, numbersOf}

@@ -9,7 +9,8 @@ use native.Mathlib.Nat.{eq-or-lt-of-le, le-of-suc-le-suc, not-suc-le-zero}
 use native.Mathlib.Omega.{arith}
 use borrow.Author.Tests.{lt-ltb, le-ltb}
 use lib.ListN.{length, getD, List·getD-eq-default}
-use Rattle.integers.specs.Lists.{tab, place, firsts, place-below, getD-tab, length-tab, true-T, T-true, below-or-not}
+use Rattle.integers.specs.Lists.{tab, place, firsts}
+use Rattle.integers.proofs.Lists.{place-below, getD-tab, length-tab, true-T, T-true, below-or-not}
 use Rattle.integers.proofs.ListFacts.{length-snoc, getD-snoc, getD-before, getD-default, map-snoc, firsts-cover, getD-mem}
 use Rattle.numbering.proofs.Numbering.{firsts-seen, firsts-new}
 use Rattle.partition.specs.Heads.{headsTo, linesTo}

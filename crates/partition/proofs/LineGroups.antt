@@ -5,7 +5,8 @@ use Prim.Native.Nat.{ℕ, _<_}
 use native.Mathlib.Omega.{arith}
 use lib.IntN.{ℤ}
 use lib.ListN.{length, getD, length-map}
-use Rattle.integers.specs.Lists.{tab, place, firsts, tab-same}
+use Rattle.integers.specs.Lists.{tab, place, firsts}
+use Rattle.integers.proofs.Lists.{tab-same}
 use Rattle.integers.specs.Vector.{Vector, eqV}
 use Rattle.integers.proofs.ListFacts.{getD-map, getD-before}
 use Rattle.grouping.specs.Grouping.{Frame, Group, group, seeds, blocks, blockNumber}

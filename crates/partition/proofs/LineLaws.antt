@@ -5,9 +5,10 @@ use mathlib.Core.List.{[], _∷_}
 use Prim.Native.Nat.{ℕ, _<_, _≤_}
 use lib.IntN.{pos}
 use lib.ListN.{length}
-use Rattle.integers.specs.Lists.{below-or-not}
-use Rattle.integers.specs.Ring.{*ℤ-idl}
-use Rattle.integers.specs.Vector.{Vector, times, zeros}
+use Rattle.integers.proofs.Lists.{below-or-not}
+use Rattle.integers.proofs.Ring.{*ℤ-idl}
+use Rattle.integers.specs.Vector.{Vector, times}
+use Rattle.integers.proofs.Vector.{zeros}
 use Rattle.nest.specs.Nest.{maxComponent}
 use Rattle.grouping.specs.Periods.{Serves}
 use Rattle.grouping.specs.Projection.{projection}

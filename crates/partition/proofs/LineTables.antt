@@ -6,7 +6,7 @@ use Prim.Native.Nat.{ℕ, suc, _+_, _<_, _≤_}
 use native.Mathlib.Numerals.{add-one}
 use native.Mathlib.Omega.{arith}
 use lib.ListN.{length, getD, set, take, drop, length-append, length-drop}
-use Rattle.integers.specs.Lists.{below-or-not}
+use Rattle.integers.proofs.Lists.{below-or-not}
 use Rattle.integers.proofs.ListFacts.{getD-before, length-snoc}
 use Rattle.numbering.proofs.Numbering.{stored, take-set, take-set-same}
 use Rattle.partition.specs.Heads.{headsTo, linesTo}

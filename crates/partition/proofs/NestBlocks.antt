@@ -6,7 +6,8 @@ use native.Mathlib.Omega.{arith}
 use lib.IntN.{ℤ, pos}
 use lib.ListN.{length, getD, take, drop}
 use lib.Seq.{getD-take, drop-at}
-use Rattle.integers.specs.Lists.{tab, tab-same}
+use Rattle.integers.specs.Lists.{tab}
+use Rattle.integers.proofs.Lists.{tab-same}
 use Rattle.integers.specs.Vector.{Vector, AllWithin}
 use Rattle.integers.proofs.ListFacts.{getD-before}
 use Rattle.nest.specs.declared.LoopNest.{LoopNest}

@@ -8,12 +8,13 @@ use native.Mathlib.Omega.{arith}
 use lib.IntN.{ℤ, pos, natAbs, _-ℤ_}
 use lib.ListN.{length, getD, List·getD-eq-default}
 use lib.Signed.{_≤ℤ_, _<ℤ_}
-use Rattle.integers.specs.Linear.{ints, dif, sizes}
-use Rattle.integers.specs.Lists.{below-or-not}
-use Rattle.integers.specs.Order.{decide}
-use Rattle.integers.specs.Ring.{zero-factor}
-use Rattle.integers.specs.Solver.{var, _⊗_, ring}
-use Rattle.integers.specs.Vector.{Vector, AllWithin, minus, zeros, eqZ, eqZ-true, all-wider, all-each, all-minus, length-times, getD-times, getD-within}
+use Rattle.integers.proofs.Linear.{ints, dif, sizes}
+use Rattle.integers.proofs.Lists.{below-or-not}
+use Rattle.integers.proofs.Order.{decide}
+use Rattle.integers.proofs.Ring.{zero-factor}
+use Rattle.integers.proofs.Solver.{var, _⊗_, ring}
+use Rattle.integers.specs.Vector.{Vector, AllWithin, minus, eqZ}
+use Rattle.integers.proofs.Vector.{zeros, eqZ-true, all-wider, all-each, all-minus, length-times, getD-times, getD-within}
 use Rattle.integers.proofs.ListFacts.{place-true, getD-map}
 use Rattle.nest.specs.declared.LoopNest.{LoopNest}
 use Rattle.nest.specs.Nest.{part, padded, depthOf, timeOf, maxLimit, maxComponent}

@@ -10,7 +10,7 @@ use native.Mathlib.Nat.{suc-ne-zero}
 use lib.Dec.{T}
 use lib.IntN.{ℤ}
 use lib.ListN.{length}
-use Rattle.integers.specs.Lists.{T-true, clash}
+use Rattle.integers.proofs.Lists.{T-true, clash}
 use Rattle.integers.specs.Vector.{Vector, isZeroV}
 use Rattle.nest.specs.declared.LoopNest.{LoopNest}
 use Rattle.nest.specs.Nest.{countOf, timeOf, dependencesOf}

@@ -10,7 +10,7 @@ use lib.IntN.{pos}
 use lib.ListN.{length, drop}
 use lib.Seq.{sets-eq, length-take-le}
 use Rattle.io.specs.Counts.{Counts}
-use Rattle.integers.specs.Lists.{split}
+use Rattle.integers.proofs.Lists.{split}
 use Rattle.nest.specs.Refusals.{shortBuffer}
 use Rattle.nest.proofs.PointLaws.{few-points}
 use Rattle.nest.proofs.Entries.{orElse-first}

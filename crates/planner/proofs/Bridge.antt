@@ -6,8 +6,9 @@ use native.Mathlib.Omega.{arith}
 use lib.Dec.{eqb}
 use lib.IntN.{ℤ, pos, natAbs}
 use lib.ListN.{length, getD, take, drop, length-append}
-use Rattle.integers.specs.Lists.{tab, count, firsts}
-use Rattle.integers.specs.Vector.{Vector, getD-within}
+use Rattle.integers.specs.Lists.{tab, count, firsts, total}
+use Rattle.integers.specs.Vector.{Vector}
+use Rattle.integers.proofs.Vector.{getD-within}
 use Rattle.nest.specs.declared.LoopNest.{LoopNest}
 use Rattle.nest.specs.Nest.{padded, countOf, maxDepth, maxCube}
 use Rattle.nest.specs.Points.{pointsOf}
@@ -19,7 +20,7 @@ use Rattle.grouping.specs.Basis.{pick, Fill}
 use Rattle.numbering.specs.Tables.{row}
 use Rattle.partition.specs.GroupRows.{GroupRow, GroupTable}
 use Rattle.partition.proofs.Theorems.{chosen-bound}
-use Rattle.mapping.specs.Mapping.{inOrder, nextTurn, processorsOf, processorCount, isMessage, total, messageCount}
+use Rattle.mapping.specs.Mapping.{inOrder, nextTurn, processorsOf, processorCount, isMessage, messageCount}
 use Rattle.mapping.specs.GroupNumbers.{Laid, HasRows, columnOf, valuesIn, numberAt}
 use Rattle.mapping.proofs.Theorems.{processors-length, table-below, table-processors, table-messages}
 use Rattle.sequential.specs.Sequential.{sequential, loop, ruleOf, valuesOf}

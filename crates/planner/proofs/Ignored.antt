@@ -5,14 +5,14 @@ use mathlib.Core.List.{[], _∷_, map}
 use Prim.Native.Nat.{_+_}
 use lib.Dec.{eqb}
 use lib.ListN.{length}
-use Rattle.integers.specs.Lists.{tab, count, greatest, firsts}
+use Rattle.integers.specs.Lists.{tab, count, greatest, firsts, total}
 use Rattle.nest.specs.declared.LoopNest.{LoopNest}
 use Rattle.nest.specs.Nest.{toℕ, cleared}
 use Rattle.nest.specs.Refusals.{refusal}
 use Rattle.nest.proofs.Places.{SameParts, same-points, same-source, accepted-same}
 use Rattle.grouping.specs.Grouping.{frame, seeds, group, blocks, blockNumber}
 use Rattle.partition.specs.Partition.{step, stepsOf, stepCount, frameOf, groupsOf, blocksOf, blockCount}
-use Rattle.mapping.specs.Mapping.{undealt, dealt, directionsOf, processor, processorsOf, processorCount, crosses, isMessage, total, messageCount}
+use Rattle.mapping.specs.Mapping.{undealt, dealt, directionsOf, processor, processorsOf, processorCount, crosses, isMessage, messageCount}
 use Rattle.sequential.proofs.Ignored.{same-values}
 use Rattle.planner.specs.Plan.{countsOf, SamePlan}
 

@@ -10,8 +10,9 @@ use lib.ListN.{length, getD, length-map, List·getD-map}
 use mir.Syntax.{w64}
 use mir.Val.{toZ}
 use mir.Facts.{toZ-pos}
-use Rattle.integers.specs.Linear.{ints}
-use Rattle.integers.specs.Lists.{tab, tab-list}
+use Rattle.integers.proofs.Linear.{ints}
+use Rattle.integers.specs.Lists.{tab}
+use Rattle.integers.proofs.Lists.{tab-list}
 use Rattle.nest.specs.Nest.{part}
 use Rattle.nest_text.specs.Fields.{Bytes}
 use Rattle.nest_text.specs.Text.{line}

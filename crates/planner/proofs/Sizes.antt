@@ -7,7 +7,8 @@ use native.Mathlib.Omega.{arith}
 use lib.Dec.{eqb}
 use lib.IntN.{pos}
 use lib.ListN.{length, getD, length-append}
-use Rattle.integers.specs.Lists.{tab, length-tab, count, firsts, flatMap-length}
+use Rattle.integers.specs.Lists.{tab, count, firsts}
+use Rattle.integers.proofs.Lists.{length-tab, flatMap-length}
 use Rattle.nest.specs.declared.LoopNest.{LoopNest}
 use Rattle.nest.specs.Nest.{countOf}
 use Rattle.nest.specs.Points.{pointsOf}

@@ -11,7 +11,7 @@ use Prim.Native.Nat.{ℕ, _-_}
 use lib.Dec.{eqb}
 use lib.IntN.{pos, negℤ}
 use lib.ListN.{length, getD}
-use Rattle.integers.specs.Lists.{any, all, first, place, firstsAfter, firsts, count, repeats, tab, greatest, firstFrom}
+use Rattle.integers.specs.Lists.{any, all, first, place, firstsAfter, firsts, count, repeats, tab, greatest, firstFrom, total}
 use Rattle.integers.specs.Vector.{Vector, dots, plus, times, eqZ, eqV, isZeroV}
 use Rattle.integers.specs.Division.{floorDiv}
 use Rattle.nest.specs.declared.LoopNest.{LoopNest}
@@ -34,8 +34,8 @@ use Rattle.grouping.specs.Grouping.{difference, sameClass, coordinates, seeds, 
 use Rattle.grouping.specs.Grouping.{blocks, blockNumber}
 use Rattle.mapping.specs.Mapping.{inOrder, direction, undealt, takesBit, withBit, noDirection, nextTurn, dealBit}
 use Rattle.mapping.specs.Mapping.{dealBits, dealt, gray, partOf, joined, processor, directionsOf, processorsOf}
-use Rattle.mapping.specs.Mapping.{processorCount, crosses, isMessage, total, messageCount}
-use Rattle.sequential.specs.Sequential.{sourceValue, valueOf as madeOf, loop, sequential, sum, weightedSum, ruleOf}
+use Rattle.mapping.specs.Mapping.{processorCount, crosses, isMessage, messageCount}
+use Rattle.sequential.specs.Sequential.{sourceValue, valueOf as madeOf, loop, sequential, weightedSum, ruleOf}
 use Rattle.sequential.specs.Sequential.{valuesOf}
 use Rattle.planner.specs.Plan.{countsOf}
 use Rattle.planner.specs.Rows.{rowOf}
@@ -253,6 +253,6 @@ unfolding any all first place firstsAfter firsts count repeats tab greatest firs
     quotients classNumber group blocks blockNumber stepsOf stepCount frameOf groupsOf blocksOf blockCount inOrder
     greatestZ direction undealt takesBit withBit noDirection nextTurn dealBit dealBits dealt gray partOf joined
     processor directionsOf processorsOf processorCount crosses isMessage total messageCount sourceValue madeOf loop
-    sequential sum weightedSum ruleOf valuesOf countsOf rowOf planLines planText listing eqN below isSome pairs says
+    sequential weightedSum ruleOf valuesOf countsOf rowOf planLines planText listing eqN below isSome pairs says
     vector nestWith L1 L2 two one ungrouped uneven listed listedText listedPlan table flatMap zipWith
 examples-hold = refl

@@ -12,10 +12,12 @@ use lib.Dec.{ltb, eqb}
 use lib.IntN.{ℤ, pos, _+ℤ_, _-ℤ_}
 use lib.ListN.{length}
 use lib.Signed.{_≤ℤ_, _<ℤ_, ltZ}
-use Rattle.integers.specs.Linear.{ints, sum}
-use Rattle.integers.specs.Tests.{signed}
-use Rattle.integers.specs.Lists.{count, tab, split, below-or-not, count-yes, count-no, count-append, T-true}
-use Rattle.integers.specs.Vector.{Vector, eqZ, eqZ-same, eqZ-other}
+use Rattle.integers.proofs.Linear.{ints, sum}
+use Rattle.integers.proofs.Tests.{signed}
+use Rattle.integers.specs.Lists.{count, tab}
+use Rattle.integers.proofs.Lists.{split, below-or-not, count-yes, count-no, count-append, T-true}
+use Rattle.integers.specs.Vector.{Vector, eqZ}
+use Rattle.integers.proofs.Vector.{eqZ-same, eqZ-other}
 use Rattle.nest.specs.Nest.{Limit, toℕ}
 use Rattle.nest.specs.Points.{extent, indices, points, pointCount}
 use Rattle.nest.proofs.Order.{point-count, index-of}

@@ -8,7 +8,8 @@ use lib.Dec.{eqb}
 use lib.IntN.{ℤ}
 use lib.ListN.{length, getD}
 use lib.Signed.{ltZ}
-use Rattle.integers.specs.Lists.{split, count}
+use Rattle.integers.specs.Lists.{count}
+use Rattle.integers.proofs.Lists.{split}
 use Rattle.integers.specs.Vector.{eqZ}
 use Rattle.nest.specs.declared.LoopNest.{LoopNest}
 use Rattle.nest.specs.Nest.{cleared}

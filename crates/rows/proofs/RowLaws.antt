@@ -10,8 +10,9 @@ use native.Mathlib.Omega.{arith}
 use lib.IntN.{ℤ, pos, _+ℤ_, _-ℤ_}
 use lib.ListN.{length, getD}
 use lib.Signed.{_≤ℤ_, ltZ}
-use Rattle.integers.specs.Linear.{ints, sum}
-use Rattle.integers.specs.Lists.{tab, count, below-or-not, tab-cons}
+use Rattle.integers.proofs.Linear.{ints, sum}
+use Rattle.integers.specs.Lists.{tab, count}
+use Rattle.integers.proofs.Lists.{below-or-not, tab-cons}
 use Rattle.integers.specs.Vector.{eqZ}
 use Rattle.nest.specs.declared.LoopNest.{LoopNest}
 use Rattle.nest.specs.Nest.{Limit, toℕ, limitAt, limitsOf, depthOf}
@@ -22,7 +23,7 @@ use Rattle.nest.proofs.Accepted.{depth-is}
 use Rattle.nest.proofs.PointLaws.{some-points}
 use Rattle.nest.proofs.Conditions.{in-span}
 use Rattle.nest.proofs.Counted.{extent-distance}
-use Rattle.integers.specs.Order.{≤-trans}
+use Rattle.integers.proofs.Order.{≤-trans}
 use Rattle.rows.specs.Rows.{outermost, rowStart, rowLength}
 use Rattle.rows.proofs.Counts.{start-is, length-is}
 

@@ -7,7 +7,8 @@ use native.Mathlib.Numerals.{add-one}
 use native.Mathlib.Omega.{arith}
 use lib.IntN.{ℤ, pos}
 use lib.ListN.{length, getD, take}
-use Rattle.integers.specs.Lists.{tab, tab-more}
+use Rattle.integers.specs.Lists.{tab, total}
+use Rattle.integers.proofs.Lists.{tab-more}
 use Rattle.nest.specs.declared.LoopNest.{LoopNest}
 use Rattle.nest.specs.Nest.{toℕ, maxWeight}
 use Rattle.nest.specs.Points.{pointsOf}
@@ -15,29 +16,29 @@ use Rattle.nest.specs.Sources.{sourceRank}
 use Rattle.sources.specs.Keys.{sourceIn, Searchable}
 use Rattle.sources.proofs.Cursors.{OfNest, keyed-length, keyed-search, keyed-source}
 use Rattle.sequential.specs.ByKeys.{termIn, valueIn}
-use Rattle.sequential.specs.Sequential.{sourceValue, valueOf, sum, ruleOf, modulus}
+use Rattle.sequential.specs.Sequential.{sourceValue, valueOf, ruleOf, modulus}
 use Rattle.sequential.proofs.SourceLaws.{source-read, weight-most}
 use Rattle.sequential.proofs.SumLaws.{sumTo, sum-none, sum-more, sum-all}
 
 -- one number more
-sum-one : (xs : List ℕ) (x : ℕ) → sum (xs ++ (x ∷ [])) ≡ sum xs + x
-unfolding sum
+sum-one : (xs : List ℕ) (x : ℕ) → total (xs ++ (x ∷ [])) ≡ total xs + x
+unfolding total
 sum-one [] x = omega arith
-sum-one (y ∷ xs) x = ap (λ n. y + n) (sum-one xs x) ∙ sym (add-assoc y (sum xs) x)
+sum-one (y ∷ xs) x = ap (λ n. y + n) (sum-one xs x) ∙ sym (add-assoc y (total xs) x)
 
 module _ (keys distances : List ℤ) (weights : List ℕ) (boundary : ℕ) (values : List ℕ) (k : ℕ) where
   -- of the first i dependences
   abbrev pub termsTo : ℕ → ℕ
-  termsTo i = sum (tab (termIn keys distances weights boundary values k) i)
+  termsTo i = total (tab (termIn keys distances weights boundary values k) i)
 
   -- of none
   pub terms-none : termsTo 0 ≡ 0
-  unfolding sum tab
+  unfolding total tab
   terms-none = refl
 
   -- of one more
   pub terms-more : (i : ℕ) → termsTo (i + 1) ≡ termsTo i + termIn keys distances weights boundary values k i
-  terms-more i = ap sum (tab-more (termIn keys distances weights boundary values k) i) ∙ sum-one (tab (termIn keys distances weights boundary values k) i) (termIn keys distances weights boundary values k i)
+  terms-more i = ap total (tab-more (termIn keys distances weights boundary values k) i) ∙ sum-one (tab (termIn keys distances weights boundary values k) i) (termIn keys distances weights boundary values k i)
 
   -- one dependence more, as the loop has it
   pub terms-next : (i j acc x : ℕ) → acc ≡ k + termsTo i → j ≡ sourceIn keys k (getD distances i (pos 0)) → x ≡ getD weights i 0 * getD (take (length keys) values) j boundary → acc + x ≡ k + termsTo (i + 1)

@@ -5,9 +5,9 @@ use mathlib.Core.List.{List}
 use Prim.Native.Nat.{ℕ, _+_, _*_, _%_}
 use lib.IntN.{ℤ, pos}
 use lib.ListN.{length, getD, take}
-use Rattle.integers.specs.Lists.{tab}
+use Rattle.integers.specs.Lists.{tab, total}
 use Rattle.sources.specs.Keys.{sourceIn}
-use Rattle.sequential.specs.Sequential.{sum, modulus}
+use Rattle.sequential.specs.Sequential.{modulus}
 
 module _ (keys distances : List ℤ) (weights : List ℕ) (boundary : ℕ) (values : List ℕ) (k : ℕ) where
   -- the weight of dependence i times what is read along it
@@ -16,4 +16,4 @@ module _ (keys distances : List ℤ) (weights : List ℕ) (boundary : ℕ) (valu
 
   -- the value of iteration k, with m dependences
   unfoldable pub valueIn : ℕ → ℕ
-  valueIn m = (k + sum (tab termIn m)) % modulus
+  valueIn m = (k + total (tab termIn m)) % modulus

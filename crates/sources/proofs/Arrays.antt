@@ -6,8 +6,10 @@ use native.Mathlib.Nat as NatL
 use native.Mathlib.Omega.{arith}
 use lib.IntN.{ℤ, pos, natAbs, _+ℤ_, _*ℤ_}
 use lib.ListN.{length, getD, set, replicate}
-use Rattle.integers.specs.Lists.{tab, getD-tab, tab-more, length-tab, map-tab}
-use Rattle.integers.specs.Vector.{AllWithin, all-each}
+use Rattle.integers.specs.Lists.{tab}
+use Rattle.integers.proofs.Lists.{getD-tab, tab-more, length-tab, map-tab}
+use Rattle.integers.specs.Vector.{AllWithin}
+use Rattle.integers.proofs.Vector.{all-each}
 use Rattle.nest.specs.declared.LoopNest.{LoopNest}
 use Rattle.nest.specs.Nest.{part, padded, depthOf, countOf, dependenceAt, dependencesOf, maxDepth, maxDependences, maxLimit}
 use Rattle.nest.proofs.Padding.{padded-none, padded-set}

@@ -10,9 +10,11 @@ use lib.IntN.{ℤ, pos, natAbs, _-ℤ_}
 use lib.ListN.{length, getD, set, take, replicate, length-map, length-append, List·getD-eq-default}
 use lib.Seq.{getD-set-same, getD-set-other, set-out, take-at}
 use lib.Signed.{_≤ℤ_, _<ℤ_}
-use Rattle.integers.specs.Linear.{ints, dif}
-use Rattle.integers.specs.Lists.{place, split, below-or-not, length-tab}
-use Rattle.integers.specs.Vector.{Vector, AllWithin, eqZ, all-wider}
+use Rattle.integers.proofs.Linear.{ints, dif}
+use Rattle.integers.specs.Lists.{place}
+use Rattle.integers.proofs.Lists.{split, below-or-not, length-tab}
+use Rattle.integers.specs.Vector.{Vector, AllWithin, eqZ}
+use Rattle.integers.proofs.Vector.{all-wider}
 use Rattle.integers.proofs.ListFacts.{getD-map}
 use Rattle.nest.specs.declared.LoopNest.{LoopNest}
 use Rattle.nest.specs.Nest.{padded, depthOf, countOf, dependenceAt, dependencesOf, maxDependences, maxLimit, maxComponent}

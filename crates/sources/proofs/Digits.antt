@@ -10,10 +10,12 @@ use lib.IntN.{ℤ, pos, negsuc, natAbs, _+ℤ_, _-ℤ_, _*ℤ_, *ℤ-comm}
 use lib.ListN.{length, drop, set, replicate, length-append}
 use lib.Seq.{drop-cons, lt-length-set, getD-at, getD-set-same, drop-set-lt}
 use lib.Signed.{_≤ℤ_, _<ℤ_, shrZ}
-use Rattle.integers.specs.Division.{floorDiv, floorDiv-is, floor-is}
-use Rattle.integers.specs.Linear.{ints, sum, dif, scale, sizes}
-use Rattle.integers.specs.Solver.{var, con, _⊕_, _⊖_, _⊗_, ring}
-use Rattle.integers.specs.Vector.{Vector, AllWithin, getD-within}
+use Rattle.integers.specs.Division.{floorDiv}
+use Rattle.integers.proofs.Division.{floorDiv-is, floor-is}
+use Rattle.integers.proofs.Linear.{ints, sum, dif, scale, sizes}
+use Rattle.integers.proofs.Solver.{var, con, _⊕_, _⊖_, _⊗_, ring}
+use Rattle.integers.specs.Vector.{Vector, AllWithin}
+use Rattle.integers.proofs.Vector.{getD-within}
 use Rattle.nest.specs.Nest.{padded, maxDepth}
 use Rattle.nest.proofs.Padding.{drop-zeros}
 use Rattle.sources.specs.Keys.{base, half, keyFrom, key, maxKey, above, digits}

@@ -9,12 +9,13 @@ use native.Mathlib.Omega.{arith}
 use lib.IntN.{ℤ, pos, negsuc, natAbs, _+ℤ_, _-ℤ_, _*ℤ_}
 use lib.ListN.{length, length-append, length-replicate}
 use lib.Signed.{_≤ℤ_, _<ℤ_}
-use Rattle.integers.specs.Bounds.{abs-+, abs-*}
-use Rattle.integers.specs.Lists.{clash, split}
-use Rattle.integers.specs.Linear.{ints, sum, sizes}
-use Rattle.integers.specs.Order.{*-mono-r, decide}
-use Rattle.integers.specs.Solver.{var, con, _⊕_, _⊖_, _⊗_, ring}
-use Rattle.integers.specs.Vector.{Vector, plus, times, minus, zeros, AllWithin, all-minus, length-plus, length-times, eqZ, eqV, eqZ-same, eqZ-other, eqV-true, eqV-same}
+use Rattle.integers.proofs.Bounds.{abs-+, abs-*}
+use Rattle.integers.proofs.Lists.{clash, split}
+use Rattle.integers.proofs.Linear.{ints, sum, sizes}
+use Rattle.integers.proofs.Order.{*-mono-r, decide}
+use Rattle.integers.proofs.Solver.{var, con, _⊕_, _⊖_, _⊗_, ring}
+use Rattle.integers.specs.Vector.{Vector, plus, times, minus, AllWithin, eqZ, eqV}
+use Rattle.integers.proofs.Vector.{zeros, all-minus, length-plus, length-times, eqZ-same, eqZ-other, eqV-true, eqV-same}
 use Rattle.nest.specs.Points.{Before}
 use Rattle.sources.specs.Keys.{base, keyFrom, key}
 

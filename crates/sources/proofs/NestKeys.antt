@@ -8,8 +8,10 @@ use native.Mathlib.Omega.{arith}
 use lib.IntN.{ℤ, pos, natAbs, _-ℤ_}
 use lib.ListN.{length, getD}
 use lib.Signed.{_<ℤ_}
-use Rattle.integers.specs.Lists.{place, getD-tab, any-tab-each}
-use Rattle.integers.specs.Vector.{Vector, AllWithin, all-wider, all-each, all-minus, eqZ}
+use Rattle.integers.specs.Lists.{place}
+use Rattle.integers.proofs.Lists.{getD-tab, any-tab-each}
+use Rattle.integers.specs.Vector.{Vector, AllWithin, eqZ}
+use Rattle.integers.proofs.Vector.{all-wider, all-each, all-minus}
 use Rattle.integers.proofs.ListFacts.{getD-map}
 use Rattle.nest.specs.declared.LoopNest.{LoopNest}
 use Rattle.nest.specs.Nest.{part, depthOf, countOf, dependenceAt, dependencesOf, maxDepth, maxLimit, maxComponent}

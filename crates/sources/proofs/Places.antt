@@ -9,10 +9,12 @@ use native.Mathlib.Omega.{arith}
 use lib.IntN.{ℤ, pos, _-ℤ_}
 use lib.ListN.{length, getD}
 use lib.Signed.{_≤ℤ_, _<ℤ_, leZ}
-use Rattle.integers.specs.Linear.{ints, dif}
-use Rattle.integers.specs.Lists.{place, split, below-or-not, place-is}
-use Rattle.integers.specs.Tests.{signed}
-use Rattle.integers.specs.Vector.{eqZ, eqZ-same, eqZ-other}
+use Rattle.integers.proofs.Linear.{ints, dif}
+use Rattle.integers.specs.Lists.{place}
+use Rattle.integers.proofs.Lists.{split, below-or-not, place-is}
+use Rattle.integers.proofs.Tests.{signed}
+use Rattle.integers.specs.Vector.{eqZ}
+use Rattle.integers.proofs.Vector.{eqZ-same, eqZ-other}
 use Rattle.integers.proofs.ListFacts.{before-place, place-true, place-least, place-most, place-none}
 use Rattle.sources.specs.Keys.{Increasing, notBelow, targetIn, Searchable}
 

@@ -10,8 +10,9 @@ use native.Mathlib.Omega.{arith}
 use lib.IntN.{ℤ, pos, natAbs, _+ℤ_, _*ℤ_, +ℤ-assoc}
 use lib.ListN.{length, getD, set, drop, length-map}
 use lib.Seq.{sets, length-sets, sets-eq}
-use Rattle.integers.specs.Bounds.{abs-+, abs-*}
-use Rattle.integers.specs.Lists.{any, tab, tab-more, tab-cons, tab-same, length-tab, any-append, any-one, or-false, flatMap-tab-more, flatMap-length}
+use Rattle.integers.proofs.Bounds.{abs-+, abs-*}
+use Rattle.integers.specs.Lists.{any, tab}
+use Rattle.integers.proofs.Lists.{tab-more, tab-cons, tab-same, length-tab, any-append, any-one, or-false, flatMap-tab-more, flatMap-length}
 use Rattle.integers.specs.Vector.{Vector}
 use Rattle.nest.specs.declared.LoopNest.{LoopNest}
 use Rattle.nest.specs.Nest.{Limit, depthOf, limitAt, limitsOf, maxDepth, maxLimit}

@@ -5,7 +5,7 @@ use Prim.Native.Nat.{_*_, _^_, _%_, _≤_}
 use native.Mathlib.Nat.{one-mul}
 use native.Mathlib.Omega.{arith}
 use lib.Pow.{shl-exact, pow-mono}
-use Rattle.integers.specs.Bounds.{told}
+use Rattle.integers.proofs.Bounds.{told}
 use Rattle.nest.specs.Nest.{toℕ, maxCube}
 use Rattle.nest.proofs.Accepted.{cube-is}
 use Rattle.execution.proofs.processors_in.Statement.{statement}

@@ -1,7 +1,7 @@
 -- `read` answers the first refusal of a text, or its nest.
 use mathlib.Core.Path.{_≡_, sym, ap, _∙_}
 use borrow.Author.Tests.{not-true, not-false}
-use Rattle.integers.specs.Bounds.{told}
+use Rattle.integers.proofs.Bounds.{told}
 use Rattle.nest.specs.Nest.{toℕ, depthOf, countOf}
 use Rattle.nest_text.proofs.ReadLaws.{Passed, BodyOf, body-behind, first-refused, first-passed}
 use borrow.Author.Needs.{needs}

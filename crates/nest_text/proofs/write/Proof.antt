@@ -5,7 +5,7 @@ use mathlib.Core.Path.{_≡_, sym, ap, ap₂, _∙_}
 use Prim.Native.Nat.{_+_, _*_}
 use native.Mathlib.Omega.{arith}
 use lib.ListN.{length}
-use Rattle.integers.specs.Bounds.{told}
+use Rattle.integers.proofs.Bounds.{told}
 use Rattle.nest.specs.Nest.{toℕ, depthOf, countOf}
 use Rattle.nest.specs.Refusals.{refusal}
 use Rattle.nest_text.specs.Text.{lineLength, headerWidth, limitWidth, textOf}

@@ -6,7 +6,7 @@ use Prim.Native.Nat.{ℕ, _*_, _<_, _≤_}
 use native.Mathlib.Omega.{arith}
 use lib.IntN.{ℤ}
 use lib.ListN.{length, getD, drop}
-use Rattle.integers.specs.Bounds.{told}
+use Rattle.integers.proofs.Bounds.{told}
 use Rattle.integers.specs.Lists.{tab}
 use Rattle.integers.proofs.ListFacts.{getD-before}
 use Rattle.nest.specs.declared.LoopNest.{LoopNest}

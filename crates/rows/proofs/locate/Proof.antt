@@ -7,8 +7,8 @@ use native.Mathlib.Omega.{arith}
 use lib.IntN.{ℤ, natAbs, _-ℤ_}
 use lib.ListN.{length}
 use mir.Facts.{toZ-ofZ}
-use Rattle.integers.specs.Bounds.{told}
-use Rattle.integers.specs.Machine.{reads}
+use Rattle.integers.proofs.Bounds.{told}
+use Rattle.integers.proofs.Machine.{reads}
 use Rattle.nest.specs.declared.Inspection.{Inspection}
 use Rattle.nest.specs.Nest.{toℕ}
 use Rattle.nest.specs.Points.{pointsOf}
@@ -16,7 +16,7 @@ use Rattle.nest.specs.Refusals.{refusal, outside, limit}
 use Rattle.nest.proofs.Accepted.{depth-is, not-crossed}
 use Rattle.nest.proofs.PointLaws.{few-points}
 use Rattle.nest.proofs.Counted.{extent-distance, extent-within}
-use Rattle.integers.specs.Linear.{ints, sizes}
+use Rattle.integers.proofs.Linear.{ints, sizes}
 use Rattle.nest.proofs.Conditions.{Uncrossed, uncrossed, in-span}
 use Rattle.nest.proofs.Entries.{iterations-are}
 use Rattle.rows.specs.declared.Span.{Span}

@@ -14,9 +14,9 @@ use lib.Seq.{sets, length-sets}
 use mir.Facts.{toZ-ofZ, toZ-pos}
 use mir.Syntax.{w64}
 use mir.Val.{toZ}
-use Rattle.integers.specs.Bounds.{told}
-use Rattle.integers.specs.Machine.{reads, Given, Within, fits, fitsG, read, readG}
-use Rattle.integers.specs.Solver.{var, con, _⊕_, _⊗_}
+use Rattle.integers.proofs.Bounds.{told}
+use Rattle.integers.proofs.Machine.{reads, Given, Within, fits, fitsG, read, readG}
+use Rattle.integers.proofs.Solver.{var, con, _⊕_, _⊗_}
 use Rattle.nest.specs.Nest.{Limit, limitAt, maxLimit}
 use Rattle.nest.specs.Points.{extent, points, pointCount}
 use Rattle.nest.proofs.Conditions.{uncrossed}

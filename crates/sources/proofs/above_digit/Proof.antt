@@ -5,8 +5,8 @@ use mathlib.Core.List.{List, [], _∷_}
 use Prim.Native.Nat.{ℕ, _^_}
 use lib.IntN.{ℤ, pos}
 use lib.Signed.{shrZ}
-use Rattle.integers.specs.Machine.{reads, Within, fits, read}
-use Rattle.integers.specs.Solver.{var, con, _⊕_}
+use Rattle.integers.proofs.Machine.{reads, Within, fits, read}
+use Rattle.integers.proofs.Solver.{var, con, _⊕_}
 use Rattle.sources.specs.Keys.{half, maxKey, above}
 use Rattle.sources.proofs.Digits.{shifted, above-small}
 use Rattle.sources.proofs.above_digit.Statement.{statement}

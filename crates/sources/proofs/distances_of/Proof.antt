@@ -4,8 +4,8 @@ use mathlib.Core.Path.{_≡_, sym, _∙_, ap}
 use Prim.Native.Nat.{_*_, _-_, _≤_, _<_}
 use native.Mathlib.Omega.{arith}
 use lib.ListN.{length}
-use Rattle.integers.specs.Bounds.{told}
-use Rattle.integers.specs.Machine.{reads}
+use Rattle.integers.proofs.Bounds.{told}
+use Rattle.integers.proofs.Machine.{reads}
 use Rattle.nest.specs.Nest.{toℕ, part, depthOf, countOf, dependenceAt, maxDepth, maxDependences}
 use Rattle.nest.proofs.Accepted.{depth-is, count-is, component-size}
 use Rattle.sources.specs.Keys.{key}

@@ -8,9 +8,9 @@ use lib.IntN.{ℤ, pos}
 use lib.ListN.{getD}
 use mir.Syntax.{w64}
 use mir.Val.{toZ}
-use Rattle.integers.specs.Bounds.{told}
-use Rattle.integers.specs.Machine.{reads, Given, fitsG, readG}
-use Rattle.integers.specs.Solver.{var, con, _⊕_, _⊗_}
+use Rattle.integers.proofs.Bounds.{told}
+use Rattle.integers.proofs.Machine.{reads, Given, fitsG, readG}
+use Rattle.integers.proofs.Solver.{var, con, _⊕_, _⊗_}
 use Rattle.nest.specs.Nest.{part, maxLimit}
 use Rattle.sources.specs.Keys.{base, key, maxKey}
 use Rattle.sources.proofs.Arrays.{key-part-more, key-part-size, key-none}

@@ -5,7 +5,7 @@ use mathlib.Core.List.{map}
 use native.Mathlib.Omega.{arith}
 use lib.IntN.{pos}
 use lib.Seq.{sets}
-use Rattle.integers.specs.Bounds.{told}
+use Rattle.integers.proofs.Bounds.{told}
 use Rattle.nest.specs.Nest.{toℕ, depthOf}
 use Rattle.nest.specs.Points.{points}
 use Rattle.nest.proofs.Accepted.{depth-is}

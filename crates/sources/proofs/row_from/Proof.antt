@@ -7,10 +7,10 @@ use native.Mathlib.Omega.{arith}
 use lib.IntN.{ℤ, pos, natAbs, _+ℤ_, _*ℤ_}
 use lib.ListN.{length, getD}
 use lib.Seq.{sets}
-use Rattle.integers.specs.Bounds.{told}
+use Rattle.integers.proofs.Bounds.{told}
 use Rattle.integers.specs.Lists.{tab}
-use Rattle.integers.specs.Machine.{reads, Within, fits, read}
-use Rattle.integers.specs.Solver.{var, con, _⊕_, _⊗_}
+use Rattle.integers.proofs.Machine.{reads, Within, fits, read}
+use Rattle.integers.proofs.Solver.{var, con, _⊕_, _⊗_}
 use Rattle.nest.specs.Nest.{Limit, limitAt, maxLimit}
 use Rattle.nest.specs.Points.{extent}
 use Rattle.nest.proofs.Conditions.{uncrossed}

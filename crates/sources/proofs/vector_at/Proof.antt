@@ -8,9 +8,9 @@ use lib.ListN.{length, drop, set, length-set}
 use mir.Facts.{toZ-ofZ}
 use mir.Syntax.{w64}
 use mir.Val.{toZ}
-use Rattle.integers.specs.Bounds.{told}
-use Rattle.integers.specs.Machine.{reads, Given, fitsG, readG}
-use Rattle.integers.specs.Solver.{var, con, _⊖_, _⊗_}
+use Rattle.integers.proofs.Bounds.{told}
+use Rattle.integers.proofs.Machine.{reads, Given, fitsG, readG}
+use Rattle.integers.proofs.Solver.{var, con, _⊖_, _⊗_}
 use Rattle.nest.specs.Nest.{padded, maxDepth}
 use Rattle.sources.specs.Keys.{base, maxKey, above, digits}
 use Rattle.sources.proofs.Digits.{above-small, digits-none, digits-more, digits-all}

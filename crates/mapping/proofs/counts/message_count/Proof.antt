@@ -6,8 +6,9 @@ use mathlib.Core.List.{List}
 use Prim.Native.Nat.{ℕ, _-_, _<_, _≤_}
 use native.Mathlib.Omega.{arith}
 use lib.ListN.{length, take}
-use Rattle.integers.specs.Bounds.{told}
-use Rattle.integers.specs.Lists.{tab, count, length-tab}
+use Rattle.integers.proofs.Bounds.{told}
+use Rattle.integers.specs.Lists.{tab, count, total}
+use Rattle.integers.proofs.Lists.{length-tab}
 use Rattle.nest.specs.declared.LoopNest.{LoopNest}
 use Rattle.nest.specs.Nest.{toℕ, countOf, maxDependences}
 use Rattle.nest.specs.Points.{pointsOf}
@@ -16,7 +17,7 @@ use Rattle.nest.proofs.Accepted.{count-is}
 use Rattle.nest.proofs.PointLaws.{few-points}
 use Rattle.sources.specs.Keys.{Behind}
 use Rattle.sources.proofs.Cursors.{OfNest, behind-start, behind-more, keyed-length, keyed-increase, keyed-search}
-use Rattle.mapping.specs.Mapping.{isMessage, total}
+use Rattle.mapping.specs.Mapping.{isMessage}
 use Rattle.mapping.proofs.KeyMessages.{keyed-messages}
 use Rattle.mapping.proofs.Messages.{count-most, total-none, total-tab-more, total-most}
 use Rattle.mapping.proofs.counts.message_count.Statement.{statement}

@@ -7,7 +7,7 @@ use lib.IntN.{ℤ, pos, _-ℤ_}
 use lib.ListN.{getD}
 use mir.Syntax.{w64}
 use mir.Val.{toZ}
-use Rattle.integers.specs.Bounds.{told}
+use Rattle.integers.proofs.Bounds.{told}
 use Rattle.integers.specs.Lists.{tab}
 use Rattle.integers.specs.Extremes.{leastZ, greatestZ, lesserZ, largerZ}
 use Rattle.nest.specs.Nest.{toℕ}

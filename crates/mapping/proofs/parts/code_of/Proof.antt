@@ -7,8 +7,8 @@ use native.Mathlib.Omega.{arith}
 use lib.Pow.{pow-mono}
 use lib.IntN.{_-ℤ_}
 use mir.Facts.{toZ-ofZ}
-use Rattle.integers.specs.Bounds.{abs-sub}
-use Rattle.integers.specs.Linear.{ints, dif}
+use Rattle.integers.proofs.Bounds.{abs-sub}
+use Rattle.integers.proofs.Linear.{ints, dif}
 use Rattle.nest.specs.Nest.{toℕ, maxCube}
 use Rattle.nest.proofs.Counted.{size-is}
 use Rattle.mapping.specs.Mapping.{gray, partOf}

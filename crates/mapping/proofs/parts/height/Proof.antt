@@ -4,10 +4,10 @@ use mathlib.Core.List.{List, [], _∷_}
 use Prim.Native.Nat.{ℕ}
 use lib.IntN.{ℤ, natAbs, _-ℤ_}
 use mir.Facts.{toZ-ofZ}
-use Rattle.integers.specs.Division.{need-cast}
-use Rattle.integers.specs.Linear.{ints, dif}
-use Rattle.integers.specs.Machine.{reads, Within, fits, read}
-use Rattle.integers.specs.Solver.{var, _⊖_}
+use Rattle.integers.proofs.Division.{need-cast}
+use Rattle.integers.proofs.Linear.{ints, dif}
+use Rattle.integers.proofs.Machine.{reads, Within, fits, read}
+use Rattle.integers.proofs.Solver.{var, _⊖_}
 use Rattle.mapping.specs.GroupNumbers.{maxNumber}
 use Rattle.nest.proofs.Counted.{size-is}
 use Rattle.mapping.proofs.parts.height.Statement.{statement}

@@ -4,7 +4,7 @@ use Prim.Native.Nat.{ℕ, _+_, _<_}
 use native.Mathlib.Omega.{arith}
 use lib.IntN.{ℤ, pos}
 use lib.ListN.{getD}
-use Rattle.integers.specs.Bounds.{told}
+use Rattle.integers.proofs.Bounds.{told}
 use Rattle.nest.specs.Nest.{maxDepth}
 use Rattle.mapping.specs.Mapping.{gray, partOf}
 use Rattle.mapping.specs.GroupNumbers.{numberAt, columnOf, heldAt}

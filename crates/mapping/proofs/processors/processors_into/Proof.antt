@@ -6,7 +6,7 @@ use Prim.Native.Nat.{ℕ}
 use native.Mathlib.Omega.{arith}
 use lib.IntN.{ℤ}
 use lib.ListN.{length, getD, drop}
-use Rattle.integers.specs.Lists.{tab-same, length-tab}
+use Rattle.integers.proofs.Lists.{tab-same, length-tab}
 use Rattle.integers.proofs.ListFacts.{getD-before}
 use Rattle.mapping.specs.Mapping.{dealt, joined}
 use Rattle.mapping.specs.GroupNumbers.{valuesIn, directionsIn, processorsIn}

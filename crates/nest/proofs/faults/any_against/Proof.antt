@@ -6,9 +6,10 @@ use native.Mathlib.Omega.{arith}
 use borrow.Author.Needs.{needs}
 use lib.IntN.{pos}
 use lib.Signed.{ltZ}
-use Rattle.integers.specs.Bounds.{told}
-use Rattle.integers.specs.Machine.{reads}
-use Rattle.integers.specs.Lists.{any, tab, any-tab-more, any-tab-found, any-tab-each}
+use Rattle.integers.proofs.Bounds.{told}
+use Rattle.integers.proofs.Machine.{reads}
+use Rattle.integers.specs.Lists.{any, tab}
+use Rattle.integers.proofs.Lists.{any-tab-more, any-tab-found, any-tab-each}
 use Rattle.integers.specs.Vector.{dots}
 use Rattle.nest.specs.Nest.{part, dependenceAt, maxDepth}
 use Rattle.nest.specs.Refusals.{outOfSpan}

@@ -6,8 +6,9 @@ use native.Mathlib.Omega.{arith}
 use lib.IntN.{pos}
 use lib.ListN.{getD}
 use borrow.Author.Needs.{needs}
-use Rattle.integers.specs.Bounds.{told}
-use Rattle.integers.specs.Lists.{any, tab, any-tab-more, any-tab-found}
+use Rattle.integers.proofs.Bounds.{told}
+use Rattle.integers.specs.Lists.{any, tab}
+use Rattle.integers.proofs.Lists.{any-tab-more, any-tab-found}
 use Rattle.nest.specs.Nest.{limitAt}
 use Rattle.nest.specs.Refusals.{crossed}
 use Rattle.nest.proofs.faults.any_crossed.Statement.{statement}

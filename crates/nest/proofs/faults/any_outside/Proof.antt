@@ -9,7 +9,7 @@ use borrow.Author.Needs.{needs}
 use mir.Syntax.{w64}
 use mir.Val.{toZ}
 use mir.Facts.{toZ-ofZ}
-use Rattle.integers.specs.Bounds.{told}
+use Rattle.integers.proofs.Bounds.{told}
 use Rattle.integers.specs.Lists.{any, tab}
 use Rattle.nest.specs.Nest.{part}
 use Rattle.nest.specs.Refusals.{outside}

@@ -9,7 +9,7 @@ use borrow.Author.Count.{below-more}
 use borrow.Author.Needs.{needs}
 use mir.Syntax.{w64}
 use mir.Val.{toZ, ofZ}
-use Rattle.integers.specs.Bounds.{told}
+use Rattle.integers.proofs.Bounds.{told}
 use Rattle.nest.specs.Nest.{maxDepth}
 use Rattle.nest.proofs.Vectors.{SameTo, equal-end, unequal-found}
 use Rattle.nest.proofs.faults.are_equal.Statement.{statement}

@@ -4,7 +4,8 @@ use mathlib.Core.Bool.{false}
 use Prim.Native.Nat.{_≤_, _-_}
 use native.Mathlib.Omega.{arith}
 use borrow.Author.Needs.{needs}
-use Rattle.integers.specs.Lists.{any, tab, any-tab-more, any-tab-found}
+use Rattle.integers.specs.Lists.{any, tab}
+use Rattle.integers.proofs.Lists.{any-tab-more, any-tab-found}
 use Rattle.integers.specs.Vector.{eqV}
 use Rattle.nest.specs.Nest.{dependenceAt}
 use Rattle.nest.proofs.faults.equals_earlier.Statement.{statement}

@@ -8,10 +8,10 @@ use lib.ListN.{getD}
 use borrow.Author.Needs.{needs}
 use mir.Syntax.{w64}
 use mir.Val.{toZ}
-use Rattle.integers.specs.Bounds.{told}
+use Rattle.integers.proofs.Bounds.{told}
 use Rattle.integers.specs.Lists.{tab}
-use Rattle.integers.specs.Machine.{reads, Given, fitsG, readG}
-use Rattle.integers.specs.Solver.{var, _⊕_, _⊗_}
+use Rattle.integers.proofs.Machine.{reads, Given, fitsG, readG}
+use Rattle.integers.proofs.Solver.{var, _⊕_, _⊗_}
 use Rattle.integers.specs.Vector.{dots}
 use Rattle.nest.specs.Nest.{part, maxDepth, maxLimit, maxComponent}
 use Rattle.nest.proofs.Vectors.{product-more, product-size}

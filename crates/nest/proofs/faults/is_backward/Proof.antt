@@ -8,7 +8,7 @@ use lib.IntN.{ℤ, pos}
 use lib.ListN.{getD}
 use lib.Signed.{ltZ}
 use borrow.Author.Needs.{needs}
-use Rattle.integers.specs.Bounds.{told}
+use Rattle.integers.proofs.Bounds.{told}
 use Rattle.nest.specs.Nest.{maxDepth}
 use Rattle.nest.proofs.Vectors.{ZeroTo, zero-more, backward-found, forward-found, backward-end}
 use Rattle.nest.proofs.faults.is_backward.Statement.{statement}

@@ -1,7 +1,7 @@
 -- `is_outside` meets its contract. Assumes nothing.
 use lib.Signed.{ltZ}
 use mathlib.Core.Bool.{false}
-use Rattle.integers.specs.Lists.{or-left}
+use Rattle.integers.proofs.Lists.{or-left}
 use mathlib.Core.Path.{_≡_, refl, sym}
 use mir.Facts.{toZ-ofZ}
 use Rattle.nest.specs.Refusals.{outside}

@@ -7,8 +7,8 @@ use borrow.Author.Needs.{needs}
 use mir.Facts.{toZ-ofZ, toZ-pos}
 use mir.Syntax.{w64}
 use mir.Val.{toZ}
-use Rattle.integers.specs.Machine.{reads, Given, fitsG, readG}
-use Rattle.integers.specs.Solver.{var, _⊕_}
+use Rattle.integers.proofs.Machine.{reads, Given, fitsG, readG}
+use Rattle.integers.proofs.Solver.{var, _⊕_}
 use Rattle.nest.specs.Nest.{maxLimit, maxIterations}
 use Rattle.nest.proofs.points.index_at.Statement.{statement}
 use Rattle.nest.proofs.points.index_at.Tie as tie

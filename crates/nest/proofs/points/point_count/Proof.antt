@@ -7,8 +7,9 @@ use native.Mathlib.Omega.{arith}
 use lib.IntN.{pos}
 use lib.ListN.{getD}
 use borrow.Author.Needs.{needs}
-use Rattle.integers.specs.Bounds.{told}
-use Rattle.integers.specs.Lists.{tab, any-tab-each}
+use Rattle.integers.proofs.Bounds.{told}
+use Rattle.integers.specs.Lists.{tab}
+use Rattle.integers.proofs.Lists.{any-tab-each}
 use Rattle.nest.specs.Nest.{Limit, limitAt, maxDepth}
 use Rattle.nest.specs.Points.{extent, pointCount}
 use Rattle.nest.specs.Refusals.{crossed}

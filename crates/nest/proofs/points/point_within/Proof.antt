@@ -9,9 +9,10 @@ use native.Mathlib.Omega.{arith}
 use lib.IntN.{ℤ, pos, _+ℤ_}
 use lib.ListN.{getD}
 use borrow.Author.Needs.{needs}
-use Rattle.integers.specs.Bounds.{told}
-use Rattle.integers.specs.Lists.{tab, any-tab-each}
-use Rattle.integers.specs.Machine.{reads}
+use Rattle.integers.proofs.Bounds.{told}
+use Rattle.integers.specs.Lists.{tab}
+use Rattle.integers.proofs.Lists.{any-tab-each}
+use Rattle.integers.proofs.Machine.{reads}
 use Rattle.integers.specs.Vector.{Vector}
 use Rattle.nest.specs.Nest.{Limit, limitAt}
 use Rattle.nest.specs.Points.{extent, points}

@@ -7,9 +7,10 @@ use native.Mathlib.Omega.{arith}
 use lib.IntN.{ℤ, pos, _-ℤ_}
 use lib.ListN.{length, getD}
 use borrow.Author.Needs.{needs}
-use Rattle.integers.specs.Bounds.{told}
-use Rattle.integers.specs.Lists.{tab, any-tab-each}
-use Rattle.integers.specs.Machine.{reads}
+use Rattle.integers.proofs.Bounds.{told}
+use Rattle.integers.specs.Lists.{tab}
+use Rattle.integers.proofs.Lists.{any-tab-each}
+use Rattle.integers.proofs.Machine.{reads}
 use Rattle.nest.specs.Nest.{Limit, toℕ, limitAt, maxDepth}
 use Rattle.nest.specs.Points.{extent, points, rank}
 use Rattle.nest.specs.Refusals.{outside, crossed}

@@ -1,6 +1,6 @@
 -- `check` meets its contract. Assumes nothing.
 use borrow.Author.Needs.{needs}
-use Rattle.integers.specs.Bounds.{told}
+use Rattle.integers.proofs.Bounds.{told}
 use Rattle.nest.proofs.refusals.check.Statement.{statement}
 use Rattle.nest.proofs.refusals.check.Tie as tie
 

@@ -11,8 +11,9 @@ use mir.Syntax.{w64}
 use mir.Val.{ofZ}
 use mir.Facts.{sfits-lit}
 use Rattle.integers.specs.Lists.{any, repeats, tab}
-use Rattle.integers.specs.Tests.{same}
-use Rattle.integers.specs.Vector.{Vector, dots, eqV, eqZ-same, eqZ-other}
+use Rattle.integers.proofs.Tests.{same}
+use Rattle.integers.specs.Vector.{Vector, dots, eqV}
+use Rattle.integers.proofs.Vector.{eqZ-same, eqZ-other}
 use Rattle.nest.specs.Nest.{part, timeOf, dependenceAt, dependencesOf, nestFrom, toℕ}
 use Rattle.nest.specs.Refusals.{Refusal, outOfSpan, backward, badTime, badDependence, backwardDependence, equalDependences, againstTime, zeroTime, number, holds, firstMet, vectorOrder}
 use Rattle.nest.proofs.FirstMet.{met, passed}

@@ -6,7 +6,8 @@ use mathlib.Core.Bool.{_||_}
 use mathlib.Core.List.{[]}
 use lib.IntN.{pos}
 use borrow.Author.Needs.{needs}
-use Rattle.integers.specs.Lists.{any, or-left, or-right}
+use Rattle.integers.specs.Lists.{any}
+use Rattle.integers.proofs.Lists.{or-left, or-right}
 use Rattle.nest.specs.Nest.{weightsOf, maxBoundary, maxWeight, nestFrom, toℕ}
 use Rattle.nest.specs.Refusals.{outside, badWeight, number, holds, firstMet}
 use Rattle.nest.proofs.FirstMet.{met, passed}

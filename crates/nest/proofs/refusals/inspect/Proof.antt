@@ -1,6 +1,6 @@
 -- `inspect` meets its contract. Assumes nothing.
 use borrow.Author.Needs.{needs}
-use Rattle.integers.specs.Bounds.{told}
+use Rattle.integers.proofs.Bounds.{told}
 use Rattle.nest.proofs.refusals.inspect.Statement.{statement}
 use Rattle.nest.proofs.refusals.inspect.Tie as tie
 

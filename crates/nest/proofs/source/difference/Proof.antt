@@ -6,8 +6,8 @@ use native.Mathlib.Omega.{arith}
 use lib.IntN.{ℤ, pos}
 use lib.ListN.{getD}
 use borrow.Author.Needs.{needs}
-use Rattle.integers.specs.Machine.{Within, fits, read}
-use Rattle.integers.specs.Solver.{var, _⊖_}
+use Rattle.integers.proofs.Machine.{Within, fits, read}
+use Rattle.integers.proofs.Solver.{var, _⊖_}
 use Rattle.nest.specs.Nest.{maxDepth, maxLimit, maxComponent}
 use Rattle.nest.proofs.Sources.{sourceTo, source-none, source-more}
 use Rattle.nest.proofs.source.difference.Statement.{statement}

@@ -9,10 +9,11 @@ use native.Mathlib.Omega.{arith}
 use lib.IntN.{ℤ, pos, natAbs, _+ℤ_, _-ℤ_}
 use lib.ListN.{length, getD}
 use borrow.Author.Needs.{needs}
-use Rattle.integers.specs.Bounds.{told, abs-+}
-use Rattle.integers.specs.Lists.{tab, any-tab-each}
-use Rattle.integers.specs.Machine.{reads, Given, fitsG, readG}
-use Rattle.integers.specs.Solver.{var, _⊖_}
+use Rattle.integers.proofs.Bounds.{told, abs-+}
+use Rattle.integers.specs.Lists.{tab}
+use Rattle.integers.proofs.Lists.{any-tab-each}
+use Rattle.integers.proofs.Machine.{reads, Given, fitsG, readG}
+use Rattle.integers.proofs.Solver.{var, _⊖_}
 use Rattle.integers.specs.Vector.{Vector}
 use Rattle.nest.specs.Nest.{Limit, toℕ, limitAt, maxDepth, maxLimit, maxIterations, maxComponent}
 use Rattle.nest.specs.Points.{extent, points, pointCount, rank}

@@ -3,7 +3,7 @@ use mathlib.Core.Path.{_≡_, sym, _∙_}
 use borrow.Author.Tests.{not-true, not-false}
 use lib.IntN.{pos}
 use lib.ListN.{getD}
-use Rattle.integers.specs.Bounds.{told}
+use Rattle.integers.proofs.Bounds.{told}
 use Rattle.nest.specs.Refusals.{firstMet, headerOrder}
 use Rattle.nest.proofs.Parts.{header-parts}
 use Rattle.nest_text.proofs.ReadLaws.{Headed, line-refused, header-read}

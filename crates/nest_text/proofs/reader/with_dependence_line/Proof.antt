@@ -8,7 +8,7 @@ use lib.IntN.{pos}
 use lib.ListN.{length, getD}
 use mir.Syntax.{w64}
 use mir.Val.{toZ, ofZ}
-use Rattle.integers.specs.Bounds.{told}
+use Rattle.integers.proofs.Bounds.{told}
 use Rattle.nest.specs.Nest.{maxDepth, maxDependences}
 use Rattle.nest_text.specs.Reader.{maxFields, withDependenceLine}
 use Rattle.nest_text.proofs.StoreLaws.{depending, over, over-none, dependence-more}

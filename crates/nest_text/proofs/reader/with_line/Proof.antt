@@ -3,7 +3,7 @@ use mathlib.Core.Path.{_≡_, _∙_}
 use native.Mathlib.Omega.{arith}
 use lib.IntN.{pos}
 use lib.ListN.{getD}
-use Rattle.integers.specs.Bounds.{told}
+use Rattle.integers.proofs.Bounds.{told}
 use Rattle.nest_text.specs.Reader.{withLimitLine}
 use Rattle.nest_text.proofs.RowLaws.{limits-line, time-line, dependence-line, last-line}
 use borrow.Author.Needs.{needs}

@@ -12,7 +12,7 @@ use Rattle.nest_text.specs.Text.{lineLength, limitWidth, line}
 use Rattle.nest_text.specs.Stored.{Stored}
 use mir.Syntax.{w64}
 use mir.Val.{toZ, ofZ}
-use Rattle.integers.specs.Bounds.{told}
+use Rattle.integers.proofs.Bounds.{told}
 use Rattle.nest_text.proofs.WriteLaws.{stored-none, stored-length, stored-as, lines-more, pair-fits, pair-line, pair-length}
 use Rattle.nest_text.proofs.writer.put_limits.Statement.{statement}
 use Rattle.nest_text.proofs.writer.put_limits.Tie as tie

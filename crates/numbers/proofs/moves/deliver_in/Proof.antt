@@ -5,7 +5,7 @@ use Prim.Native.Nat.{_<_}
 use native.Mathlib.Omega.{arith}
 use lib.IntN.{pos}
 use lib.ListN.{length, getD}
-use Rattle.integers.specs.Bounds.{told}
+use Rattle.integers.proofs.Bounds.{told}
 use Rattle.nest.specs.Nest.{toℕ, countOf}
 use Rattle.nest.proofs.Accepted.{count-is}
 use Rattle.execution.proofs.EntryLaws.{no-rank, no-dependence, delivers-from}

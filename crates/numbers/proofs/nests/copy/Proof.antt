@@ -5,7 +5,7 @@ use Prim.Native.Nat.{_+_, _-_}
 use native.Mathlib.Omega.{arith}
 use lib.IntN.{pos}
 use lib.ListN.{length, getD}
-use Rattle.integers.specs.Bounds.{told}
+use Rattle.integers.proofs.Bounds.{told}
 use Rattle.numbers.proofs.Copying.{Copied, copied-start, copied-length, copied-more, copied-end}
 use Rattle.numbers.proofs.nests.copy.Statement.{statement}
 use Rattle.numbers.proofs.nests.copy.Tie as tie

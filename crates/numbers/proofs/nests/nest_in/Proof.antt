@@ -2,7 +2,7 @@
 use borrow.Author.Needs.{needs}
 use lib.IntN.{pos}
 use lib.ListN.{getD}
-use Rattle.integers.specs.Bounds.{told}
+use Rattle.integers.proofs.Bounds.{told}
 use Rattle.integers.specs.Lists.{tab}
 use Rattle.nest.specs.Nest.{part}
 use Rattle.numbers.proofs.Parts.{joined-nest}

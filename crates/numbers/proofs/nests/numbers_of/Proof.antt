@@ -4,7 +4,7 @@ use mathlib.Core.Path.{_≡_, sym}
 use Prim.Native.Nat.{_≤_}
 use native.Mathlib.Omega.{arith}
 use lib.ListN.{length, length-set}
-use Rattle.integers.specs.Bounds.{told}
+use Rattle.integers.proofs.Bounds.{told}
 use Rattle.numbers.proofs.Copying.{copied-nest}
 use Rattle.numbers.proofs.nests.numbers_of.Statement.{statement}
 use Rattle.numbers.proofs.nests.numbers_of.Tie as tie

@@ -3,7 +3,7 @@ use borrow.Author.Needs.{needs}
 use mathlib.Core.Path.{_≡_, sym, ap, _∙_}
 use lib.IntN.{pos}
 use lib.ListN.{getD, take, drop}
-use Rattle.integers.specs.Bounds.{told}
+use Rattle.integers.proofs.Bounds.{told}
 use Rattle.nest.specs.Nest.{toℕ, depthOf}
 use Rattle.numbers.specs.Numbers.{nestIn}
 use Rattle.numbers.proofs.Lent.{asked, answered, lower-lent, upper-lent, dependences-lent, lengths-lent, depth-lent}

@@ -8,9 +8,10 @@ use lib.IntN.{ℤ, pos, natAbs}
 use lib.ListN.{length, getD}
 use mir.Facts.{toZ-pos}
 use mir.Syntax.{w64}
-use Rattle.integers.specs.Bounds.{back}
-use Rattle.integers.specs.Machine.{reads}
-use Rattle.integers.specs.Vector.{Vector, AllWithin, all-each, getD-within}
+use Rattle.integers.proofs.Bounds.{back}
+use Rattle.integers.proofs.Machine.{reads}
+use Rattle.integers.specs.Vector.{Vector, AllWithin}
+use Rattle.integers.proofs.Vector.{all-each, getD-within}
 use Rattle.nest.specs.Nest.{part, maxComponent}
 use Rattle.nest.proofs.Words.{part-length}
 use Rattle.sources.specs.Keys.{base, key, maxKey}

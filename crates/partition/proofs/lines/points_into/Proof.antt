@@ -8,10 +8,12 @@ use lib.ListN.{length, getD, take}
 use lib.IntN.{ℤ, pos, natAbs}
 use lib.Seq.{length-take-le, getD-take}
 use borrow.Author.Needs.{needs}
-use Rattle.integers.specs.Bounds.{back}
-use Rattle.integers.specs.Machine.{reads}
-use Rattle.integers.specs.Lists.{tab, tab-list, map-tab}
-use Rattle.integers.specs.Vector.{Vector, AllWithin, all-wider, getD-within}
+use Rattle.integers.proofs.Bounds.{back}
+use Rattle.integers.proofs.Machine.{reads}
+use Rattle.integers.specs.Lists.{tab}
+use Rattle.integers.proofs.Lists.{tab-list, map-tab}
+use Rattle.integers.specs.Vector.{Vector, AllWithin}
+use Rattle.integers.proofs.Vector.{all-wider, getD-within}
 use Rattle.nest.specs.Nest.{part, padded, maxLimit}
 use Rattle.nest.proofs.Padding.{length-padded}
 use Rattle.numbering.specs.Tables.{putRow}

@@ -8,10 +8,10 @@ use lib.IntN.{ℤ, pos, natAbs, _+ℤ_, _-ℤ_}
 use lib.ListN.{length, getD}
 use mir.Facts.{toZ-ofZ, sfits-lit}
 use mir.Syntax.{w64}
-use Rattle.integers.specs.Bounds.{told}
-use Rattle.integers.specs.Machine.{reads, Given, fitsG, readG}
-use Rattle.integers.specs.Solver.{var, _⊕_, _⊖_}
-use Rattle.integers.specs.Tests.{same}
+use Rattle.integers.proofs.Bounds.{told}
+use Rattle.integers.proofs.Machine.{reads, Given, fitsG, readG}
+use Rattle.integers.proofs.Solver.{var, _⊕_, _⊖_}
+use Rattle.integers.proofs.Tests.{same}
 use Rattle.nest.specs.Nest.{maxComponent}
 use Rattle.sources.specs.Keys.{maxKey}
 use Rattle.partition.specs.KeySteps.{maxProduct}

@@ -6,8 +6,9 @@ use Prim.Native.Nat.{_+_, _≤_}
 use native.Mathlib.Omega.{arith}
 use lib.IntN.{ℤ, pos, natAbs}
 use lib.ListN.{length, getD}
-use Rattle.integers.specs.Bounds.{told}
-use Rattle.integers.specs.Vector.{dots, getD-within}
+use Rattle.integers.proofs.Bounds.{told}
+use Rattle.integers.specs.Vector.{dots}
+use Rattle.integers.proofs.Vector.{getD-within}
 use Rattle.nest.specs.Nest.{part, padded, maxDepth, maxLimit}
 use Rattle.nest.proofs.Padding.{length-padded, at-padded, part-padded}
 use Rattle.sources.specs.Keys.{digits}

@@ -9,8 +9,8 @@ use lib.IntN.{ℤ, natAbs}
 use lib.ListN.{length, set, length-set}
 use mir.Syntax.{w64}
 use mir.Val.{toZ}
-use Rattle.integers.specs.Bounds.{told}
-use Rattle.integers.specs.Machine.{reads}
+use Rattle.integers.proofs.Bounds.{told}
+use Rattle.integers.proofs.Machine.{reads}
 use Rattle.partition.specs.KeySteps.{productAt, maxProduct, raised}
 use Rattle.numbering.proofs.Filled.{filled-length}
 use Rattle.partition.proofs.Products.{product-small}

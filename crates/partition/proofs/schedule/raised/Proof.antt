@@ -8,9 +8,9 @@ use lib.IntN.{ℤ, pos, natAbs, _+ℤ_}
 use lib.Signed.{_≤ℤ_, nonNeg, yes-nonNeg}
 use mir.Syntax.{w32}
 use mir.Val.{Fits}
-use Rattle.integers.specs.Linear.{ints, sum, sizes}
-use Rattle.integers.specs.Machine.{reads, fits, read}
-use Rattle.integers.specs.Solver.{var, con, _⊕_}
+use Rattle.integers.proofs.Linear.{ints, sum, sizes}
+use Rattle.integers.proofs.Machine.{reads, fits, read}
+use Rattle.integers.proofs.Solver.{var, con, _⊕_}
 use Rattle.nest.proofs.Counted.{size-is}
 use Rattle.partition.specs.KeySteps.{maxProduct}
 use Rattle.partition.proofs.schedule.raised.Statement.{statement}
