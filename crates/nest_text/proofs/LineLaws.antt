@@ -1,4 +1,5 @@
 -- Laws of one line, a field at a time, and of the lines that follow one another.
+-- Assumes nothing.
 use mathlib.Core.Path.{_≡_, refl, ap, _∙_}
 use mathlib.Core.Bool.{Bool, true, false, not, _&&_}
 use mathlib.Core.List.{List, _++_}

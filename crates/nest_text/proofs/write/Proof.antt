@@ -2,27 +2,39 @@
 -- was.
 use borrow.Author.Needs.{needs}
 use mathlib.Core.Path.{_≡_, sym, ap, ap₂, _∙_}
-use Prim.Native.Nat.{_+_, _*_}
 use native.Mathlib.Omega.{arith}
 use lib.ListN.{length}
 use Rattle.integers.proofs.Bounds.{told}
 use Rattle.nest.specs.Nest.{toℕ, depthOf, countOf}
 use Rattle.nest.specs.Refusals.{refusal}
-use Rattle.nest_text.specs.Text.{lineLength, headerWidth, limitWidth, textOf}
+use Rattle.nest_text.specs.Text.{textOf, textLength}
 use Rattle.nest.proofs.Spans.{spans}
-use Rattle.nest_text.specs.Fields.{columns}
 use Rattle.nest_text.proofs.TextLength.{text-length}
 use Rattle.nest_text.proofs.WriteAnswers.{refused-first, refused-short, bytes-written}
 use Rattle.nest_text.proofs.write.Statement.{statement}
 use Rattle.nest_text.proofs.write.Tie as tie
+
+-- ---- the places of an accepted nest, and the start
+abbrev start : tie.Else1 → tie.Start
+start c = c .before .before .before
+
+abbrev passed : tie.After-to-size2 → tie.Else1
+passed c = c .before .before .before .before
+
+abbrev sized : tie.After-text-length → tie.After-to-size2
+sized c = c .before
+
+abbrev first : tie.After-text-length → tie.Start
+first c = start (passed (sized c))
 
 check-requires : tie.Need-check-requires
 check-requires c κs = search needs
 
 returns : tie.Need-returns
 returns c =
-    let a = c .before .before .before .args in
-    refused-first (refusal (a .s)) (textOf (a .s)) (a .out .now) (c .before .check .result) (c .before .check .ensures) (c .if1 .taken)
+    let d = c .before in
+    let a = d .before .before .args in
+    refused-first (refusal (a .s)) (textOf (a .s)) (a .out .now) (d .check .result) (d .check .ensures) (c .if1 .taken)
 
 to-size-requires : tie.Need-to-size-requires
 to-size-requires c κs = search needs
@@ -31,50 +43,51 @@ to-size-requires-2 : tie.Need-to-size-requires-2
 to-size-requires-2 c κs = search needs
 
 -- the nest is accepted
-accepted : (c : tie.Else1) → refusal (c .before .before .before .args .s) ≡ 0
+accepted : (c : tie.Else1) → refusal (start c .args .s) ≡ 0
 accepted c = sym (c .before .check .ensures) ∙ c .if1 .left
 
 -- the numbers of loops and of dependences
-loops : (c : tie.After-to-size2) → c .before .before .to-size .result ≡ depthOf (c .before .before .before .before .before .before .before .args .s)
+loops : (c : tie.After-to-size2) → c .before .before .to-size .result ≡ depthOf (start (passed c) .args .s)
 loops c =
     let d = c .before .before in
-    d .to-size .ensures ∙ ap toℕ (told (d .before .before .before .before .before .args .s .depth) (d .before .struct-told .given .0 .1))
+    d .to-size .ensures ∙ ap toℕ (told (start (passed c) .args .s .depth) (d .before .struct-told .given .0 .1))
 
-dependences : (c : tie.After-to-size2) → c .to-size2 .result ≡ countOf (c .before .before .before .before .before .before .before .args .s)
-dependences c = c .to-size2 .ensures ∙ ap toℕ (told (c .before .before .before .before .before .before .before .args .s .count) (c .before .struct-told2 .given .1 .0 .1))
+dependences : (c : tie.After-to-size2) → c .to-size2 .result ≡ countOf (start (passed c) .args .s)
+dependences c = c .to-size2 .ensures ∙ ap toℕ (told (start (passed c) .args .s .count) (c .before .struct-told2 .given .1 .0 .1))
 
 text-length-requires : tie.Need-text-length-requires
 text-length-requires c κs =
-    let h = spans (c .before .before .before .before .before .before .before .args .s) (accepted (c .before .before .before .before)) in
+    let h = spans (start (passed c) .args .s) (accepted (passed c)) in
     (omega (arith, loops c, h .depth-few), omega (arith, dependences c, h .count-few))
 
 -- the length that is computed is the text's
-long : (c : tie.After-text-length) → c .text-length .result ≡ length (textOf (c .before .before .before .before .before .before .before .before .args .s))
+long : (c : tie.After-text-length) → c .text-length .result ≡ length (textOf (first c .args .s))
 long c =
-    let d = c .before in
-    let s = d .before .before .before .before .before .before .before .args .s in
-    c .text-length .ensures ∙ ap₂ (λ n m. lineLength headerWidth + lineLength limitWidth * n + lineLength n * (m + 1) + (columns * (m + 1) + 1)) (loops d) (dependences d)
-    ∙ sym (text-length s (spans s (accepted (d .before .before .before .before))))
+    let s = first c .args .s in
+    c .text-length .ensures ∙ ap₂ textLength (loops (sized c)) (dependences (sized c))
+    ∙ sym (text-length s (spans s (accepted (passed (sized c)))))
 
 returns-2 : tie.Need-returns-2
 returns-2 c =
     let d = c .before in
-    let a = d .before .before .before .before .before .before .before .before .args in
-    refused-short (refusal (a .s)) (textOf (a .s)) (a .out .now) (accepted (d .before .before .before .before .before)) (omega (arith, long d))
+    let a = first d .args in
+    refused-short (refusal (a .s)) (textOf (a .s)) (a .out .now) (accepted (passed (sized d))) (omega (arith, long d))
 
 put-text-requires : tie.Need-put-text-requires
 put-text-requires c κs =
     let d = c .before .before in
-    (accepted (d .before .before .before .before .before), (loops (d .before), (dependences (d .before), omega (arith, long d))))
+    (accepted (passed (sized d)), (loops (sized d), (dependences (sized d), omega (arith, long d))))
 
 same-length : tie.Need-same-length
 same-length c = search needs
 
 returns-3 : tie.Need-returns-3
 returns-3 c =
-    let d = c .before .before .before .before .before in
-    let a = d .before .before .before .before .before .before .before .before .args in
-    bytes-written (refusal (a .s)) (textOf (a .s)) (a .out .now) (accepted (d .before .before .before .before .before)) (d .text-length .result) (c .before .before .put-text .last .1 .1 .1 .0) (long d) (omega (arith, long d)) (c .before .before .put-text .ensures .bytes)
+    let p = c .before .before in
+    let d = p .before .before .before in
+    let a = first d .args in
+    bytes-written (refusal (a .s)) (textOf (a .s)) (a .out .now) (accepted (passed (sized d))) (d .text-length .result)
+    (p .put-text .last .1 .1 .1 .0) (long d) (omega (arith, long d)) (p .put-text .ensures .bytes)
 
 pub write-spec : {M : Type 1} → statement M
 write-spec =

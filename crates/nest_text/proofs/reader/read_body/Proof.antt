@@ -1,11 +1,11 @@
 -- `read_body` answers whether all lines behind line 1 are in form, and their nest.
 use borrow.Author.Needs.{needs}
 use mathlib.Core.Path.{_∙_}
-use Prim.Native.Nat.{_+_, _*_, _-_, _<_, _^_}
+use Prim.Native.Nat.{_+_, _-_, _<_, _^_}
 use native.Mathlib.Omega.{arith}
 use borrow.Author.Tests.{not-true, not-false}
 use lib.ListN.{length}
-use Rattle.nest_text.specs.Fields.{columns}
+use Rattle.nest_text.specs.Text.{lineLength}
 use Rattle.nest_text.proofs.BodyLaws.{Reached, reached-start, turn-more, turn-malformed, body-trailing, body-whole, body-malformed}
 use Rattle.nest_text.proofs.reader.read_body.Statement.{statement}
 use Rattle.nest_text.proofs.reader.read_body.Tie as tie
@@ -48,36 +48,39 @@ read-line-requires c κs = search needs
 no-body-requires : tie.Need-no-body-requires Inv-loop μ-loop
 no-body-requires c κs = search needs
 
+-- ---- the places of a turn: the start, the turn, the line's width and the line
+abbrev start : tie.At-loop Inv-loop μ-loop → tie.Start Inv-loop μ-loop
+start c = c .before .before
+
+abbrev turn : tie.After-width Inv-loop μ-loop → tie.At-loop Inv-loop μ-loop
+turn c = c .before .before
+
+abbrev wide : tie.After-read-line Inv-loop μ-loop → tie.After-width Inv-loop μ-loop
+wide c = c .before .before
+
+abbrev read : tie.After-with-line Inv-loop μ-loop → tie.After-read-line Inv-loop μ-loop
+read c = c .before .before .before .before
+
 returns : tie.Need-returns Inv-loop μ-loop
 returns c =
     let e = c .before .before .before in
-    let d = e .before .before in
-    let l = d .before .before .loop in
-    let s = d .before .before .before .before in
+    let d = wide e in
+    let l = turn d .loop in
+    let s = start (turn d) in
     let a = s .args in
     c .no-body .ensures
     ∙ body-malformed (a .n) (a .m) (a .header .cube) (a .text .now) (s .pre .0) (s .pre .1)
     (turn-malformed (a .n) (a .m) (a .header .cube) (a .text .now) (s .pre .0) (s .pre .1) (l .i) (l .at) (l .s) (l .inv) (d .before .loop-test .taken) (d .width .result) (e .read-line .result)
     (d .width .ensures .0) (e .read-line .ensures) (not-true (e .read-line .result .ok) (c .before .if1 .taken)))
 
--- the start and the turn's start, seen from the turn's end
-abbrev start : tie.After-with-line Inv-loop μ-loop → tie.Start Inv-loop μ-loop
-start c = c .before .before .before .before .before .before .before .before .before .before
-
-abbrev turn : tie.After-with-line Inv-loop μ-loop → tie.At-loop Inv-loop μ-loop
-turn c = c .before .before .before .before .before .before .before .before
-
-abbrev wide : tie.After-with-line Inv-loop μ-loop → tie.After-width Inv-loop μ-loop
-wide c = c .before .before .before .before .before .before
-
 -- the state after one line more
-next : (c : tie.After-with-line Inv-loop μ-loop)
-    → Reached (start c .args .n) (start c .args .m) (start c .args .header .cube) (start c .args .text .now) (turn c .loop .i + 1) (turn c .loop .at + (columns * wide c .width .result + 1)) (c .with-line .result)
+next : (c : tie.After-with-line Inv-loop μ-loop) → let d = wide (read c) in let l = turn d .loop in let a = start (turn d) .args in
+    Reached (a .n) (a .m) (a .header .cube) (a .text .now) (l .i + 1) (l .at + lineLength (d .width .result)) (c .with-line .result)
 next c =
-    let e = c .before .before .before .before in
-    let d = wide c in
-    let l = turn c .loop in
-    let s = start c in
+    let e = read c in
+    let d = wide e in
+    let l = turn d .loop in
+    let s = start (turn d) in
     let a = s .args in
     turn-more (a .n) (a .m) (a .header .cube) (a .text .now) (s .pre .0) (s .pre .1) (l .i) (l .at) (l .s) (l .inv) (d .before .loop-test .taken) (d .width .result) (e .read-line .result)
     (d .width .ensures .0) (e .read-line .ensures) (c .with-line .result) (not-false (e .read-line .result .ok) (c .before .before .if1 .left)) (c .with-line .ensures)
@@ -94,7 +97,7 @@ add-at c = search needs
 add-at-2 : tie.Need-add-at-2 Inv-loop μ-loop
 add-at-2 c =
     let h = next c .inside in
-    let f : length (start c .args .text .now) < 2 ^ 64 = search needs in
+    let f : length (start (turn (wide (read c))) .args .text .now) < 2 ^ 64 = search needs in
     omega arith
 
 add-i : tie.Need-add-i Inv-loop μ-loop
@@ -111,8 +114,9 @@ no-body-requires-2 c κs = search needs
 
 returns-2 : tie.Need-returns-2 Inv-loop μ-loop
 returns-2 c =
-    let l = c .before .before .before .loop in
-    let s = c .before .before .before .before .before in
+    let t = c .before .before .before in
+    let l = t .loop in
+    let s = start t in
     let a = s .args in
     c .no-body2 .ensures
     ∙ body-malformed (a .n) (a .m) (a .header .cube) (a .text .now) (s .pre .0) (s .pre .1)
@@ -120,8 +124,9 @@ returns-2 c =
 
 returns-3 : tie.Need-returns-3 Inv-loop μ-loop
 returns-3 c =
-    let l = c .before .before .loop in
-    let s = c .before .before .before .before in
+    let t = c .before .before in
+    let l = t .loop in
+    let s = start t in
     let a = s .args in
     body-whole (a .n) (a .m) (a .header .cube) (a .text .now) (s .pre .0) (s .pre .1) (l .i) (l .at) (l .s) (l .inv) (omega arith) (c .if2 .left)
 

@@ -43,12 +43,16 @@ check-header-requires c κs = search needs
 refused-requires-2 : tie.Need-refused-requires-2
 refused-requires-2 c κs = search needs
 
+-- line 1, seen from behind the constructor
+abbrev first : tie.After-with-shape → tie.After-read-line
+first c = c .before .before .before .before .before .before .before .before
+
 -- the nest with line 1's numbers
-made : (c : tie.After-with-shape) → Headed (c .before .before .before .before .before .before .before .before .before .before .args .text .now) (c .with-shape .result)
+made : (c : tie.After-with-shape) → Headed (first c .before .before .args .text .now) (c .with-shape .result)
 made c =
     let b = c .before .before .before in
     let f = b .before in
-    let d = f .before .before .before .before in
+    let d = first c in
     let row = d .read-line .result .numbers in
     let x = told (getD row 0 (pos 0)) (b .with-shape-arg .given) in
     let y = told (getD row 1 (pos 0)) (c .before .before .with-shape-arg2 .given) in
@@ -56,11 +60,15 @@ made c =
     header-read (d .before .before .args .text .now) (d .read-line .result) (d .read-line .ensures) (not-false (d .read-line .result .ok) (f .before .before .if1 .left))
     (f .empty .result) (c .with-shape .result) (f .empty .ensures .0) (rw (x, y, z) at (c .with-shape .ensures))
 
+-- that nest, seen from behind the check
+abbrev nest-of : tie.After-check-header → tie.After-with-shape
+nest-of c = c .before .before .before .before
+
 -- what the check of it says
-checked : (c : tie.After-check-header) → c .check-header .result ≡ firstMet (c .before .before .before .before .with-shape .result) headerOrder
+checked : (c : tie.After-check-header) → c .check-header .result ≡ firstMet (nest-of c .with-shape .result) headerOrder
 checked c =
     let d = c .before .before .before in
-    let s = d .before .with-shape .result in
+    let s = nest-of c .with-shape .result in
     let x = told (s .depth) (d .struct-told .given .0 .1) in
     let y = told (s .count) (c .before .before .struct-told2 .given .1 .0 .1) in
     let z = told (s .cube) (c .before .struct-told3 .given .1 .1 .0 .1) in
@@ -69,12 +77,12 @@ checked c =
 returns-2 : tie.Need-returns-2
 returns-2 c =
     let e = c .before .before in
-    c .refused2 .ensures ∙ made (e .before .before .before .before) .refused-with (e .check-header .result) (checked e) (c .before .if2 .taken)
+    c .refused2 .ensures ∙ made (nest-of e) .refused-with (e .check-header .result) (checked e) (c .before .if2 .taken)
 
 returns-3 : tie.Need-returns-3
 returns-3 c =
     let e = c .before in
-    made (e .before .before .before .before) .accepted (sym (checked e) ∙ c .if2 .left)
+    made (nest-of e) .accepted (sym (checked e) ∙ c .if2 .left)
 
 pub read-header-spec : {M : Type 1} → statement M
 read-header-spec =

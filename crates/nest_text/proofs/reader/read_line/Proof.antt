@@ -5,7 +5,7 @@ use Prim.Native.Nat.{_*_, _-_}
 use native.Mathlib.Omega.{arith}
 use lib.Seq.{length-take-le}
 use Rattle.nest_text.specs.declared.fields.Field.{Field}
-use Rattle.nest_text.specs.declared.fields.Field.the-variants.{Number}
+use Rattle.nest_text.specs.declared.fields.Field.the-variants.{Number, Malformed}
 use Rattle.nest_text.specs.Text.{fieldAt}
 use Rattle.nest_text.specs.Fields.{columns}
 use Rattle.nest_text.proofs.FieldLaws.{back}
@@ -18,6 +18,13 @@ Inv-loop text k end line numbers₀ i₀ numbers i = LineRead text k i numbers
 
 abbrev μ-loop : tie.MeasureT-loop
 μ-loop text k end line numbers₀ i₀ numbers i = k - i
+
+-- the start, seen from a turn and from behind its call
+abbrev start : tie.At-loop Inv-loop μ-loop → tie.Start Inv-loop μ-loop
+start c = c .before .before .before .before .before .before
+
+abbrev turn : tie.After-field-at Inv-loop μ-loop → tie.At-loop Inv-loop μ-loop
+turn c = c .before .before
 
 mul-end : tie.Need-mul-end Inv-loop μ-loop
 mul-end c = search needs
@@ -68,16 +75,18 @@ no-line-requires-3 : tie.Need-no-line-requires-3 Inv-loop μ-loop
 no-line-requires-3 c κs = search needs
 
 -- the field that was read is that of the text
-field-is : (c : tie.After-field-at Inv-loop μ-loop) (f : Field) → c .field-at .result ≡ f → fieldAt (c .before .before .before .before .before .before .before .before .args .text .now) (c .before .before .loop .i) ≡ f
+field-is : (c : tie.After-field-at Inv-loop μ-loop) (f : Field) → c .field-at .result ≡ f
+    → fieldAt (start (turn c) .args .text .now) (turn c .loop .i) ≡ f
 field-is c f e =
-    let a = c .before .before .before .before .before .before .before .before .args in
-    sym (c .field-at .ensures ∙ field-of-line (a .text .now) (a .k) (c .before .before .loop .i) (c .before .loop-test .taken) (omega arith)) ∙ e
+    let a = start (turn c) .args in
+    sym (c .field-at .ensures ∙ field-of-line (a .text .now) (a .k) (turn c .loop .i) (c .before .loop-test .taken) (omega arith)) ∙ e
 
 returns-3 : tie.Need-returns-3 Inv-loop μ-loop
 returns-3 c =
     let d = c .before .before .before in
-    let a = d .before .before .before .before .before .before .before .before .args in
-    c .no-line3 .ensures ∙ field-malformed (a .text .now) (a .k) (d .before .before .loop .i) (d .before .loop-test .taken) (field-is d _ (c .before .enum-told .given .1))
+    let a = start (turn d) .args in
+    c .no-line3 .ensures
+    ∙ field-malformed (a .text .now) (a .k) (turn d .loop .i) (d .before .loop-test .taken) (field-is d Malformed (c .before .enum-told .given .1))
 
 mul-numbers : tie.Need-mul-numbers Inv-loop μ-loop
 mul-numbers c = search needs
@@ -94,8 +103,8 @@ loop-less c = search needs
 loop-again : tie.Need-loop-again Inv-loop μ-loop
 loop-again c =
     let d = c .before .before .before in
-    let l = d .before .before .loop in
-    let s = d .before .before .before .before .before .before .before .before in
+    let l = turn d .loop in
+    let s = start (turn d) in
     let z = c .before .z .given .0 .0 in
     rw (back {z = z} (c .known-told .given .0 .1))
     (line-more (s .args .text .now) (s .args .k) (l .i) (l .numbers) z (s .pre) (d .before .loop-test .taken) (l .inv) (field-is d (Number z) (c .before .z .given .1)))
@@ -103,9 +112,8 @@ loop-again c =
 returns-4 : tie.Need-returns-4 Inv-loop μ-loop
 returns-4 c =
     let l = c .before .loop in
-    let d = c .before .before .before in
-    let a = d .before .before .before .before .args in
-    line-end (a .text .now) (a .k) (l .i) (l .numbers) (l .inv) (omega arith) (d .if2 .left)
+    let a = start (c .before) .args in
+    line-end (a .text .now) (a .k) (l .i) (l .numbers) (l .inv) (omega arith) (c .before .before .before .if2 .left)
 
 pub read-line-spec : {M : Type 1} → statement M
 read-line-spec =

@@ -18,10 +18,17 @@ use Rattle.nest_text.proofs.writer.put_dependences.Statement.{statement
 use Rattle.nest_text.proofs.writer.put_dependences.Tie as tie
 
 abbrev Inv-loop : tie.InvT-loop
-Inv-loop out₀ at n m dependences end₀ i₀ out end i = (i ≤ m) × ((end ≡ at + lineLength n * i) × ((length out ≡ length out₀) × Stored out₀ at (flatMap line (tab (dependenceAt dependences n) i)) out end))
+Inv-loop out₀ at n m dependences end₀ i₀ out end i =
+    (i ≤ m)
+    × ((end ≡ at + lineLength n * i)
+    × ((length out ≡ length out₀) × Stored out₀ at (flatMap line (tab (dependenceAt dependences n) i)) out end))
 
 abbrev μ-loop : tie.MeasureT-loop
 μ-loop out₀ at n m dependences end₀ i₀ out end i = m - i
+
+-- the start, seen from a turn
+abbrev start : tie.At-loop Inv-loop μ-loop → tie.Start Inv-loop μ-loop
+start c = c .before .before
 
 -- one more row of w bytes
 row-fits : (w i m : ℕ) → i < m → w * i + w ≤ w * m
@@ -48,8 +55,9 @@ mul-put-line c = omega arith
 
 put-line-requires : tie.Need-put-line-requires Inv-loop μ-loop
 put-line-requires c κs =
-    let a = c .before .before .before .before .before in
-    let l = c .before .before .before .loop in
+    let t = c .before .before .before in
+    let a = start t in
+    let l = t .loop in
     (omega (arith, row-fits (lineLength (a .args .n)) (l .i) (a .args .m) (omega arith)), (omega arith, a .pre .1 .1 .1 (l .i) (omega arith)))
 
 add-i : tie.Need-add-i Inv-loop μ-loop
@@ -60,18 +68,20 @@ loop-less c = omega arith
 
 loop-again : tie.Need-loop-again Inv-loop μ-loop
 loop-again c =
-    let a = c .before .before .before .before .before .before .before .before in
-    let l = c .before .before .before .before .before .before .loop in
-    let s = lines-more (dependenceAt (a .args .t3) (a .args .n)) (l .i) (l .inv .1 .1 .1) (c .before .before .put-line .ensures) in
+    let d = c .before .before in
+    let t = d .before .before .before .before in
+    let a = start t in
+    let l = t .loop in
+    let s = lines-more (dependenceAt (a .args .t3) (a .args .n)) (l .i) (l .inv .1 .1 .1) (d .put-line .ensures) in
     let w = row-length a (l .i) (omega arith) in
-    (omega arith, (omega (arith, w, c .before .before .put-line .ensures .ends, next-row (lineLength (a .args .n)) (l .i)), (stored-length s, s)))
+    (omega arith, (omega (arith, w, d .put-line .ensures .ends, next-row (lineLength (a .args .n)) (l .i)), (stored-length s, s)))
 
 same-length : tie.Need-same-length Inv-loop μ-loop
 same-length c = c .before .loop .inv .1 .1 .0
 
 returns : tie.Need-returns Inv-loop μ-loop
 returns c =
-    let a = c .before .before .before .args in
+    let a = start (c .before) .args in
     let l = c .before .loop in
     let e : l .i ≡ a .m = omega arith in
     subst (λ (j : ℕ). Stored (a .out .now) (a .at) (flatMap line (tab (dependenceAt (a .t3) (a .n)) j)) (l .out) (l .end)) e (l .inv .1 .1 .1)

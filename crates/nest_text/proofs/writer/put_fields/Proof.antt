@@ -16,10 +16,17 @@ use Rattle.nest_text.proofs.writer.put_fields.Statement.{statement}
 use Rattle.nest_text.proofs.writer.put_fields.Tie as tie
 
 abbrev Inv-loop : tie.InvT-loop
-Inv-loop out₀ at numbers from k end₀ i₀ out end i = (i ≤ k) × ((end ≡ at + columns * i) × ((length out ≡ length out₀) × Stored out₀ at (flatMap fieldOf (part numbers from i)) out end))
+Inv-loop out₀ at numbers from k end₀ i₀ out end i =
+    (i ≤ k)
+    × ((end ≡ at + columns * i)
+    × ((length out ≡ length out₀) × Stored out₀ at (flatMap fieldOf (part numbers from i)) out end))
 
 abbrev μ-loop : tie.MeasureT-loop
 μ-loop out₀ at numbers from k end₀ i₀ out end i = k - i
+
+-- the start, seen from a turn
+abbrev start : tie.At-loop Inv-loop μ-loop → tie.Start Inv-loop μ-loop
+start c = c .before .before
 
 loop-holds : tie.Need-loop-holds Inv-loop μ-loop
 unfolding part tab flatMap
@@ -36,8 +43,9 @@ shared-slice-copy-out-write-at c = omega arith
 
 write-at-requires : tie.Need-write-at-requires Inv-loop μ-loop
 write-at-requires c κs =
-    let a = c .before .before .before .before .before in
-    let l = c .before .before .before .loop in
+    let t = c .before .before .before in
+    let a = start t in
+    let l = t .loop in
     let z = getD (a .args .numbers .now) (a .args .from + l .i) (pos 0) in
     (omega arith, subst InColumns (sym (told z (c .write-at-arg2 .given))) (a .pre .1 .1 (l .i) (omega arith)))
 
@@ -53,8 +61,9 @@ loop-less c = omega arith
 loop-again : tie.Need-loop-again Inv-loop μ-loop
 loop-again c =
     let d = c .before .before in
-    let a = d .before .before .before .before .before .before in
-    let l = d .before .before .before .before .loop in
+    let t = d .before .before .before .before in
+    let a = start t in
+    let l = t .loop in
     let z = getD (a .args .numbers .now) (a .args .from + l .i) (pos 0) in
     let e = d .write-at .ensures ∙ ap (λ x. take (l .end) (l .out) ++ (fieldOf x ++ drop (l .end + columns) (l .out))) (told z (d .before .write-at-arg2 .given)) in
     let s = fields-more (a .args .numbers .now) (a .args .from) (l .i) (l .inv .1 .1 .1) (a .pre .1 .1 (l .i) (omega arith)) (omega arith) e in
@@ -65,7 +74,7 @@ same-length c = c .before .loop .inv .1 .1 .0
 
 returns : tie.Need-returns Inv-loop μ-loop
 returns c =
-    let a = c .before .before .before .args in
+    let a = start (c .before) .args in
     let l = c .before .loop in
     let e : l .i ≡ a .k = omega arith in
     subst (λ (n : ℕ). Stored (a .out .now) (a .at) (flatMap fieldOf (part (a .numbers .now) (a .from) n)) (l .out) (l .end)) e (l .inv .1 .1 .1)

@@ -29,11 +29,13 @@ same-length c = search needs
 
 returns : tie.Need-returns
 returns c =
-    let d = c .before .before .before .before .before .before .before .before .before .before in
+    let p = c .before .before in
+    let w = p .before .before .before .before .before in
+    let d = w .before .before .before in
     let a = d .args in
-    let e = c .before .before .before .before .before .before .before .write-at .ensures ∙ ap (λ x. take (a .at) (a .out .now) ++ (fieldOf x ++ drop (a .at + columns) (a .out .now))) (toZ-ofZ (d .fits .boundary)) in
-    let f = stored-field (a .out .now) (c .before .before .before .before .before .before .before .write-at .last .0) (a .at) (a .boundary) (d .pre .1 .1 .0) (omega arith) e in
-    stored-as (line-cons (a .boundary) (part (a .t4) 0 (a .m))) (stored-more f (c .before .before .put-line .ensures))
+    let e = w .write-at .ensures ∙ ap (λ x. take (a .at) (a .out .now) ++ (fieldOf x ++ drop (a .at + columns) (a .out .now))) (toZ-ofZ (d .fits .boundary)) in
+    let f = stored-field (a .out .now) (w .write-at .last .0) (a .at) (a .boundary) (d .pre .1 .1 .0) (omega arith) e in
+    stored-as (line-cons (a .boundary) (part (a .t4) 0 (a .m))) (stored-more f (p .put-line .ensures))
 
 pub put-last-spec : {M : Type 1} → statement M
 put-last-spec =

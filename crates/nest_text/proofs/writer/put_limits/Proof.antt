@@ -22,10 +22,21 @@ abbrev limits : List ℤ → List ℤ → ℕ → List ℤ
 limits lower upper k = getD lower k (pos 0) ∷ getD upper k (pos 0) ∷ []
 
 abbrev Inv-loop : tie.InvT-loop
-Inv-loop out₀ at n lower upper end₀ k₀ out end k = (k ≤ n) × ((end ≡ at + lineLength limitWidth * k) × ((length out ≡ length out₀) × Stored out₀ at (flatMap line (tab (limits lower upper) k)) out end))
+Inv-loop out₀ at n lower upper end₀ k₀ out end k =
+    (k ≤ n)
+    × ((end ≡ at + lineLength limitWidth * k)
+    × ((length out ≡ length out₀) × Stored out₀ at (flatMap line (tab (limits lower upper) k)) out end))
 
 abbrev μ-loop : tie.MeasureT-loop
 μ-loop out₀ at n lower upper end₀ k₀ out end k = n - k
+
+-- the start, seen from a turn
+abbrev start : tie.At-loop Inv-loop μ-loop → tie.Start Inv-loop μ-loop
+start c = c .before .before
+
+-- the turn, seen from behind the two numbers
+abbrev turn : tie.After-t19 Inv-loop μ-loop → tie.At-loop Inv-loop μ-loop
+turn c = c .before .before .before
 
 loop-holds : tie.Need-loop-holds Inv-loop μ-loop
 unfolding tab flatMap
@@ -47,18 +58,17 @@ slice-aggregate-put-line : tie.Need-slice-aggregate-put-line Inv-loop μ-loop
 slice-aggregate-put-line c = search needs
 
 -- the two numbers of the line, as the machine holds them
-lower-is : (c : tie.After-t19 Inv-loop μ-loop) → let z = getD (c .before .before .before .before .before .args .t3) (c .before .before .before .loop .k) (pos 0) in toZ w64 (ofZ w64 z) ≡ z
+lower-is : (c : tie.After-t19 Inv-loop μ-loop) → let z = getD (start (turn c) .args .t3) (turn c .loop .k) (pos 0) in toZ w64 (ofZ w64 z) ≡ z
 lower-is c = told _ (c .before .t15 .given)
 
-upper-is : (c : tie.After-t19 Inv-loop μ-loop) → let z = getD (c .before .before .before .before .before .args .t4) (c .before .before .before .loop .k) (pos 0) in toZ w64 (ofZ w64 z) ≡ z
+upper-is : (c : tie.After-t19 Inv-loop μ-loop) → let z = getD (start (turn c) .args .t4) (turn c .loop .k) (pos 0) in toZ w64 (ofZ w64 z) ≡ z
 upper-is c = told _ (c .t19 .given)
 
 put-line-requires : tie.Need-put-line-requires Inv-loop μ-loop
 put-line-requires c κs =
-    let a = c .before .before .before .before .before .before .before in
-    let l = c .before .before .before .before .before .loop in
-    let h = a .pre .1 .1 (l .k) (omega arith) in
-    (omega arith, (omega arith, pair-fits (lower-is (c .before .before)) (upper-is (c .before .before)) (h .0) (h .1)))
+    let d = c .before .before in
+    let h = start (turn d) .pre .1 .1 (turn d .loop .k) (omega arith) in
+    (omega arith, (omega arith, pair-fits (lower-is d) (upper-is d) (h .0) (h .1)))
 
 add-k : tie.Need-add-k Inv-loop μ-loop
 add-k c = omega arith
@@ -69,8 +79,8 @@ loop-less c = omega arith
 loop-again : tie.Need-loop-again Inv-loop μ-loop
 loop-again c =
     let d = c .before .before .before .before .before in
-    let a = d .before .before .before .before .before in
-    let l = d .before .before .before .loop in
+    let a = start (turn d) in
+    let l = turn d .loop in
     let h = a .pre .1 .1 (l .k) (omega arith) in
     let q = stored-as (pair-line (lower-is d) (upper-is d)) (c .before .before .put-line .ensures) in
     let s = lines-more (limits (a .args .t3) (a .args .t4)) (l .k) (l .inv .1 .1 .1) q in
@@ -81,7 +91,7 @@ same-length c = c .before .loop .inv .1 .1 .0
 
 returns : tie.Need-returns Inv-loop μ-loop
 returns c =
-    let a = c .before .before .before .args in
+    let a = start (c .before) .args in
     let l = c .before .loop in
     let e : l .k ≡ a .n = omega arith in
     subst (λ (j : ℕ). Stored (a .out .now) (a .at) (flatMap line (tab (limits (a .t3) (a .t4)) j)) (l .out) (l .end)) e (l .inv .1 .1 .1)

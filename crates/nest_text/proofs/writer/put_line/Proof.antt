@@ -14,12 +14,19 @@ use Rattle.nest_text.proofs.writer.put_line.Tie as tie
 put-fields-requires : tie.Need-put-fields-requires
 put-fields-requires c κs = search needs
 
+-- the fields stored, and the start
+abbrev stored : tie.After-slice-known2 → tie.After-put-fields
+stored c = c .before .before
+
+abbrev start : tie.After-slice-known2 → tie.Start
+start c = stored c .before .before .before
+
 -- where the fields end
-fields-end : (c : tie.After-slice-known2) → c .before .before .put-fields .result ≡ c .before .before .before .before .before .args .at + columns * c .before .before .before .before .before .args .k
+fields-end : (c : tie.After-slice-known2) → stored c .put-fields .result ≡ start c .args .at + columns * start c .args .k
 unfolding part
 fields-end c =
-    let a = c .before .before .before .before .before in
-    omega (arith, c .before .before .put-fields .ensures .ends, fields-length (λ i. getD (a .args .numbers .now) (a .args .from + i) (pos 0)) (a .args .k) (a .pre .1 .1))
+    let a = start c in
+    omega (arith, stored c .put-fields .ensures .ends, fields-length (λ i. getD (a .args .numbers .now) (a .args .from + i) (pos 0)) (a .args .k) (a .pre .1 .1))
 
 slice-write-out : tie.Need-slice-write-out
 slice-write-out c = omega (arith, fields-end c)
@@ -32,8 +39,8 @@ same-length c = search needs
 
 returns : tie.Need-returns
 returns c =
-    let a = c .before .before .before .before .before .args in
-    line-ends (part (a .numbers .now) (a .from) (a .k)) (c .before .before .put-fields .ensures)
+    let a = start c .args in
+    line-ends (part (a .numbers .now) (a .from) (a .k)) (stored c .put-fields .ensures)
 
 pub put-line-spec : {M : Type 1} → statement M
 put-line-spec =
