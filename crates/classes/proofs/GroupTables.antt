@@ -15,7 +15,7 @@ use Rattle.integers.specs.Lists.{place, firsts}
 use Rattle.grouping.specs.Grouping.{Frame, sameClass, seeds, classNumber, directions, difference}
 use Rattle.numbering.specs.Tables.{row, rows, putRow}
 use Rattle.grouping.specs.Basis.{GroupedAs, Grouped, basisFrameBy, inOneClassBy, pick, residuesBy, ClassRowsBy}
-use Rattle.numbering.proofs.Rows.{length-heads, head-at, put-other, put-length, put-row, row-other}
+use Rattle.numbering.proofs.TableRows.{length-heads, head-at, put-other, put-length, put-row, row-other}
 use Rattle.numbering.proofs.Table.{Numbered, numbered-start, numbered-more, number-most, numbered-number}
 
 -- ---- the invariant

@@ -58,9 +58,9 @@ unfolding numbersOf
 numbers-take N k bs h = tab-same (λ i. numberOf (fieldAt (take N bs) i)) (λ i. numberOf (fieldAt bs i)) k (λ i l. ap numberOf (field-take N i bs (omega arith)))
 
 -- how many bytes lines with these numbers of fields have
-abbrev total : List ℕ → ℕ
-total [] = 0
-total (k ∷ ks) = lineLength k + total ks
+abbrev textBytes : List ℕ → ℕ
+textBytes [] = 0
+textBytes (k ∷ ks) = lineLength k + textBytes ks
 
 -- whether any byte is there
 none-take : (N : ℕ) (bs : Bytes) → 1 ≤ N → eqb (length (take N bs)) 0 ≡ eqb (length bs) 0
@@ -69,7 +69,7 @@ none-take (suc N) [] h = refl
 none-take (suc N) (b ∷ bs) h = ne-eqb (suc (length (take N bs))) 0 (suc-ne-zero (length (take N bs))) ∙ sym (ne-eqb (suc (length bs)) 0 (suc-ne-zero (length bs)))
 
 -- one byte more than the lines decides whether something follows
-lines-take : (ks : List ℕ) (N : ℕ) (bs : Bytes) → total ks + 1 ≤ N → areLines ks (take N bs) ≡ areLines ks bs
+lines-take : (ks : List ℕ) (N : ℕ) (bs : Bytes) → textBytes ks + 1 ≤ N → areLines ks (take N bs) ≡ areLines ks bs
 unfolding areLines
 lines-take [] N bs h = none-take N bs (omega arith)
 lines-take (k ∷ ks) N bs h =
@@ -77,7 +77,7 @@ lines-take (k ∷ ks) N bs h =
     (ap (areLines ks) (drop-take (lineLength k) N bs) ∙ lines-take ks (N - lineLength k) (drop (lineLength k) bs) (omega arith))
 
 -- the numbers of the lines
-lines-numbers-take : (ks : List ℕ) (N : ℕ) (bs : Bytes) → total ks ≤ N → lineNumbers ks (take N bs) ≡ lineNumbers ks bs
+lines-numbers-take : (ks : List ℕ) (N : ℕ) (bs : Bytes) → textBytes ks ≤ N → lineNumbers ks (take N bs) ≡ lineNumbers ks bs
 unfolding lineNumbers
 lines-numbers-take [] N bs h = refl
 lines-numbers-take (k ∷ ks) N bs h =
@@ -87,33 +87,33 @@ lines-numbers-take (k ∷ ks) N bs h =
 -- ---- how long the lines behind line 1 are
 
 -- lines behind lines
-total-append : (xs ys : List ℕ) → total (xs ++ ys) ≡ total xs + total ys
-total-append [] ys = omega arith
-total-append (x ∷ xs) ys = let ih = total-append xs ys in omega arith
+textBytes-append : (xs ys : List ℕ) → textBytes (xs ++ ys) ≡ textBytes xs + textBytes ys
+textBytes-append [] ys = omega arith
+textBytes-append (x ∷ xs) ys = let ih = textBytes-append xs ys in omega arith
 
 -- n lines of k fields each
-total-same : (n k : ℕ) → total (replicate n k) ≡ lineLength k * n
-total-same zero k = omega arith
-total-same (suc n) k = let ih = total-same n k in omega (arith, mul-suc (lineLength k) n)
+textBytes-same : (n k : ℕ) → textBytes (replicate n k) ≡ lineLength k * n
+textBytes-same zero k = omega arith
+textBytes-same (suc n) k = let ih = textBytes-same n k in omega (arith, mul-suc (lineLength k) n)
 
 -- the most that an accepted line 1 asks for, with line 1 itself
 widths-most : (n m : ℕ) → n ≤ maxDepth → m ≤ maxDependences
-    → lineLength headerWidth + total (widths n m) ≤ textLength maxDepth maxDependences
+    → lineLength headerWidth + textBytes (widths n m) ≤ textLength maxDepth maxDependences
 unfolding widths
 widths-most n m h k =
     let p : lineLength n ≤ lineLength maxDepth = omega arith in
     omega (
       arith,
-      total-append (replicate n limitWidth) (n ∷ (replicate m n ++ ((1 + m) ∷ []))),
-      total-append (replicate m n) ((1 + m) ∷ []),
-      total-same n limitWidth,
-      total-same m n,
+      textBytes-append (replicate n limitWidth) (n ∷ (replicate m n ++ ((1 + m) ∷ []))),
+      textBytes-append (replicate m n) ((1 + m) ∷ []),
+      textBytes-same n limitWidth,
+      textBytes-same m n,
       mul-le-mul p k,
     )
 
 -- ---- shapes
 
-module _ (ws : List Shape) (N : ℕ) (bs : Bytes) (short : (w : Shape) → List·Memᴰ w ws → total w + 1 ≤ N) where
+module _ (ws : List Shape) (N : ℕ) (bs : Bytes) (short : (w : Shape) → List·Memᴰ w ws → textBytes w + 1 ≤ N) where
   -- the same shapes fit
   same-fit : (w : Shape) → List·Memᴰ w ws → areLines w (take N bs) ≡ areLines w bs
   same-fit w m = lines-take w N bs (short w m)
@@ -129,7 +129,7 @@ module _ (ws : List Shape) (N : ℕ) (bs : Bytes) (short : (w : Shape) → List�
   fitting-take = ap (λ l. getD l 0 []) (first-same (λ w. areLines w (take N bs)) (λ w. areLines w bs) ws same-fit)
 
   -- which is short
-  fitting-short : total (firstFitting ws bs) ≤ N
+  fitting-short : textBytes (firstFitting ws bs) ≤ N
   fitting-short = split (fits ws bs) (λ t. omega (arith, short (firstFitting ws bs) (fitting-listed ws bs t))) (λ f. rw (none-fitting ws bs f) (omega arith))
 
 -- ---- the whole text
@@ -171,10 +171,10 @@ module _ (bs : Bytes) (h : HeaderSpans (headerOf bs)) where
   far = readMost - lineLength (headerWidthOf bs)
 
   -- lines of such a shape are shorter
-  most : (w : Shape) → List·Memᴰ w ws → total w + 1 ≤ far
+  most : (w : Shape) → List·Memᴰ w ws → textBytes w + 1 ≤ far
   unfolding shapes
   most w m =
-      let e = ap total (one-listed m) in
+      let e = ap textBytes (one-listed m) in
       omega (arith, e, widths-most (depthOf (headerOf bs)) (countOf (headerOf bs)) (h .depth-few) (h .count-few), header-narrow bs)
 
   -- line 1 allows the same

@@ -16,7 +16,7 @@ use Rattle.numbering.proofs.ByFirst.{firsts-few}
 use Rattle.numbering.proofs.ChainLaws.{equal-or-not}
 use Rattle.numbering.proofs.Equal.{equal-self}
 use Rattle.numbering.proofs.Numbering.{firsts-seen, firsts-new}
-use Rattle.numbering.proofs.Rows.{length-rows, getD-rows, rows-same, put-row, put-length, row-apart}
+use Rattle.numbering.proofs.TableRows.{length-rows, getD-rows, rows-same, put-row, put-length, row-apart}
 use Rattle.numbering.proofs.Table.{rows-more, prefix-place}
 
 -- there are no more different rows than rows

@@ -12,7 +12,7 @@ use Rattle.integers.proofs.ListFacts.{getD-map, getD-before}
 use Rattle.grouping.specs.Grouping.{Frame, Group, group, seeds, blocks, blockNumber}
 use Rattle.grouping.specs.Basis.{Grouped}
 use Rattle.numbering.specs.Tables.{row, rows}
-use Rattle.numbering.proofs.Rows.{getD-rows, length-rows}
+use Rattle.numbering.proofs.TableRows.{getD-rows, length-rows}
 use Rattle.classes.proofs.RowNumbers.{block-numbers, block-count, block-rows}
 use Rattle.partition.specs.Partition.{noGroup}
 use Rattle.partition.specs.GroupRows.{GroupRow, groupsOn, GroupTable}

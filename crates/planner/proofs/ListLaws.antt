@@ -24,7 +24,7 @@ use Rattle.mapping.proofs.Theorems.{processors-length}
 use Rattle.sequential.specs.Sequential.{valuesOf}
 use Rattle.planner.specs.declared.Planning.{Planning}
 use Rattle.planner.specs.Plan.{planRefusal, planAnswer, countsOf, countsIn, tablesIn, Plans}
-use Rattle.planner.specs.Rows.{rowOf}
+use Rattle.planner.specs.Listing.{rowOf}
 use Rattle.planner.specs.Listing.{planLines, planText}
 use Rattle.planner.proofs.LineLaws.{lines-behind, nth-small, counts-length}
 use Rattle.planner.proofs.PlanLaws.{number, values-length, plan-number}

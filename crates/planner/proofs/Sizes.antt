@@ -27,7 +27,7 @@ use Rattle.sequential.specs.Sequential.{ruleOf, loop, sequential, valuesOf}
 use Rattle.sequential.proofs.LoopLaws.{loop-entry}
 use Rattle.sequential.proofs.SumLaws.{sum-all}
 use Rattle.planner.specs.Plan.{countsOf}
-use Rattle.planner.specs.Rows.{rowOf}
+use Rattle.planner.specs.Listing.{rowOf}
 use Rattle.planner.specs.Listing.{planLines, planText}
 use Rattle.planner.proofs.LineLaws.{AllSmall, nth-small, counts-length, lines-cons}
 

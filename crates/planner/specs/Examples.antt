@@ -38,7 +38,7 @@ use Rattle.mapping.specs.Mapping.{processorCount, crosses, isMessage, messageCo
 use Rattle.sequential.specs.Sequential.{sourceValue, valueOf as madeOf, loop, sequential, weightedSum, ruleOf}
 use Rattle.sequential.specs.Sequential.{valuesOf}
 use Rattle.planner.specs.Plan.{countsOf}
-use Rattle.planner.specs.Rows.{rowOf}
+use Rattle.planner.specs.Listing.{rowOf}
 use Rattle.planner.specs.Listing.{planLines, planText, listing}
 
 -- ---- what a case may say of its nest

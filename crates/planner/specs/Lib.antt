@@ -1,5 +1,4 @@
 -- The plan of a loop nest and its listing.
 pub mod Plan
-pub mod Rows
 pub mod Listing
 pub mod Examples

@@ -5,7 +5,7 @@ use mathlib.Core.List.{List, [], _∷_, _++_, map, flatMap}
 use Prim.Native.Nat.{ℕ, _<_}
 use lib.Dec.{eqb}
 use lib.IntN.{ℤ, pos}
-use lib.ListN.{length}
+use lib.ListN.{length, getD}
 use Rattle.integers.specs.Lists.{tab}
 use Rattle.nest.specs.declared.LoopNest.{LoopNest}
 use Rattle.nest.specs.Points.{pointsOf}
@@ -18,7 +18,11 @@ use Rattle.partition.specs.Partition.{stepsOf, blocksOf}
 use Rattle.mapping.specs.Mapping.{processorsOf}
 use Rattle.sequential.specs.Sequential.{valuesOf}
 use Rattle.planner.specs.Plan.{countsOf}
-use Rattle.planner.specs.Rows.{rowOf}
+
+-- the numbers of a line: rank, step, block, processor, value of iteration k
+unfoldable pub rowOf : List ℕ → List ℕ → List ℕ → List ℕ → ℕ → List ℤ
+rowOf steps blocks processors values k = pos k ∷ pos (getD steps k 0) ∷ pos (getD blocks k 0)
+    ∷ pos (getD processors k 0) ∷ pos (getD values k 0) ∷ []
 
 -- the counts, then for each iteration in loop order rank, step, block, processor, value
 unfoldable pub planLines : LoopNest → List (List ℤ)

@@ -8,7 +8,7 @@ ghost use Rattle.nest.specs.Nest.{maxIterations};
 ghost use Rattle.integers.specs.Lists.{tab};
 ghost use Rattle.nest_text.specs.Text.{line};
 ghost use Rattle.nest_text.specs.Stored.{Stored};
-ghost use Rattle.planner.specs.Rows.{rowOf};
+ghost use Rattle.planner.specs.Listing.{rowOf};
 
 // the bytes of a line of five numbers: six columns each, and the byte that ends the line
 pub const LINE: usize = 31;

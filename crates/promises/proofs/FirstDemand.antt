@@ -40,7 +40,7 @@ use Rattle.execution.specs.Run.{State, moveEffect, moveAnswer, moveAfter, after
 use Rattle.execution.specs.Words.{moveOrder}
 use Rattle.execution.specs.declared.Move as asked
 use Rattle.execution.specs.Entry.{moveOf, numberOf, answerOf, Makes}
-use Rattle.numbers.specs.Numbers.{numbersOf, madeIn, ReadsInto, MakesInto}
+use Rattle.foreign.specs.Numbers.{numbersOf, madeIn, ReadsInto, MakesInto}
 use Rattle.execution.proofs.Answers.{move-answered, compute-numbers, deliver-numbers}
 use Rattle.execution.proofs.EntryLaws.{number-answer}
 use Rattle.promises.specs.Demand1.{bufferNumbers, rowNumbers, textNumbers, moveNumbers, OneOutcome, OneWriting, NoCounts, Demand1}

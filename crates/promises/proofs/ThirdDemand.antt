@@ -27,7 +27,7 @@ use Rattle.execution.proofs.WordLaws.{list-says}
 use Rattle.execution.proofs.TableLaws.{run-snoc, answers-snoc}
 use Rattle.execution.proofs.Demand.{causal, layout-outcome, own-messages, plan-planned, calls-run}
 use Rattle.execution.proofs.EntryRuns.{entry-calls, entry-told}
-use Rattle.numbers.specs.Numbers.{Asked, askedMove, madeIn, NumberCalls, none-asked, next-asked}
+use Rattle.foreign.specs.Numbers.{Asked, askedMove, madeIn, NumberCalls, none-asked, next-asked}
 use Rattle.promises.specs.Demand3.{Reference, FreshState, OnPlan, OneMove, computes-one, delivers-one, changes-nothing, NothingAllowed, Finished, Comes, Demand3}
 
 -- ---- a move

@@ -22,7 +22,7 @@ use Rattle.execution.specs.Rules.{Move, compute, deliver, Layout}
 use Rattle.execution.specs.Run.{State}
 use Rattle.execution.specs.declared.Move as asked
 use Rattle.execution.specs.Entry.{moveOf, numberOf, Makes}
-use Rattle.numbers.specs.Numbers.{numbersOf, ReadsInto, MakesInto}
+use Rattle.foreign.specs.Numbers.{numbersOf, ReadsInto, MakesInto}
 
 -- ---- the refusals of document 01 that each call has, by their numbers, in the order in which they
 -- are tested

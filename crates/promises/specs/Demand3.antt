@@ -24,7 +24,7 @@ use Rattle.execution.specs.Words.{SaysList}
 use Rattle.execution.specs.Run.{State, bit}
 use Rattle.execution.specs.Claim.{MoveCall, Calls}
 use Rattle.execution.specs.Entry.{layoutIn, moveOf, numberOf, EntryCalls, toldBy}
-use Rattle.numbers.specs.Numbers.{Asked, askedMove, madeIn, NumberCalls}
+use Rattle.foreign.specs.Numbers.{Asked, askedMove, madeIn, NumberCalls}
 use Rattle.promises.specs.Iterations.{Iteration, behind}
 
 -- ---- what is spoken of

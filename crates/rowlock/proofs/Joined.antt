@@ -11,7 +11,7 @@ use Rattle.execution.specs.declared.Answer.{Answer}
 use Rattle.execution.specs.Rules.{Layout}
 use Rattle.execution.specs.Run.{State}
 use Rattle.execution.specs.Entry.{moveOf, numberOf, Makes}
-use Rattle.numbers.specs.Numbers.{madeIn, MakesInto}
+use Rattle.foreign.specs.Numbers.{madeIn, MakesInto}
 
 -- the nest and the index of a row, where both are known
 pub located-from : (s n : LoopNest) (entries : ℕ) (i known : ℤ) (r : Span) → s ≡ n → i ≡ known → Locates s entries i r → Locates n entries known r

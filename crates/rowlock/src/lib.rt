@@ -5,13 +5,13 @@
 // span, a nest that was read) is stored through a reference of its own, zeros where the call is
 // refused: it is a part of the answer. `rows::row` answers a part of a lent table, which C cannot
 // take: `rowlock_locate` says where that part lies.
-use numbers::NUMBERS;
-use numbers::made_in;
-use numbers::make_move_in;
-use numbers::move_in;
-use numbers::nest_in;
-use numbers::number_of;
-use numbers::numbers_of;
+use foreign::NUMBERS;
+use foreign::made_in;
+use foreign::make_move_in;
+use foreign::move_in;
+use foreign::nest_in;
+use foreign::number_of;
+use foreign::numbers_of;
 ghost use Rattle.nest.specs.Refusals.{Checks, Inspects};
 ghost use Rattle.nest_text.specs.Text.{Writes};
 ghost use Rattle.rows.specs.Rows.{Locates};
@@ -19,7 +19,7 @@ ghost use Rattle.sequential.specs.Sequential.{Fills};
 ghost use Rattle.planner.specs.Plan.{tablesIn, Plans};
 ghost use Rattle.planner.specs.Listing.{Lists};
 ghost use Rattle.execution.specs.Entry.{layoutIn, stateIn};
-ghost use Rattle.numbers.specs.Numbers.{nestIn, moveIn, spanFrom, planningFrom, ReadsInto, MakesInto};
+ghost use Rattle.foreign.specs.Numbers.{nestIn, moveIn, spanFrom, planningFrom, ReadsInto, MakesInto};
 
 // How many counts a plan has.
 const COUNTS: usize = 5;

@@ -1,7 +1,7 @@
 -- `rowlock_move` meets its contract: it is `make_move_in` of the move that the numbers are, with what was done stored. Assumes nothing.
 use borrow.Author.Needs.{needs}
 use Rattle.execution.specs.Entry.{layoutIn, stateIn}
-use Rattle.numbers.specs.Numbers.{nestIn, moveIn}
+use Rattle.foreign.specs.Numbers.{nestIn, moveIn}
 use Rattle.rowlock.proofs.Joined.{move-from}
 use Rattle.rowlock.proofs.rowlock_move.Statement.{statement}
 use Rattle.rowlock.proofs.rowlock_move.Tie as tie

@@ -13,7 +13,7 @@ use Rattle.integers.specs.Extremes.{leastZ, greatestZ, lesserZ, largerZ}
 use Rattle.nest.specs.Nest.{toℕ}
 use Rattle.mapping.specs.GroupNumbers.{numberAt, column, spanOf}
 use Rattle.integers.proofs.Extremes.{least-tab-one, least-tab-more, greatest-tab-one, greatest-tab-more}
-use Rattle.mapping.proofs.Rows.{least-size, greatest-size, in-order, height-most, width-is}
+use Rattle.mapping.proofs.Widths.{least-size, greatest-size, in-order, height-most, width-is}
 use Rattle.mapping.proofs.directions.reach_in.Statement.{statement}
 use Rattle.mapping.proofs.directions.reach_in.Tie as tie
 

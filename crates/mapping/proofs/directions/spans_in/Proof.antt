@@ -7,7 +7,7 @@ use Rattle.nest.specs.Nest.{maxDepth}
 use Rattle.mapping.specs.Mapping.{Direction}
 use Rattle.mapping.specs.GroupNumbers.{columnOf, column, spanOf}
 use Rattle.mapping.proofs.Deals.{turn-below}
-use Rattle.mapping.proofs.Rows.{Spanning, spanning-start, spanning-more, spanning-end}
+use Rattle.mapping.proofs.Widths.{Spanning, spanning-start, spanning-more, spanning-end}
 use Rattle.mapping.proofs.directions.spans_in.Statement.{statement}
 use Rattle.mapping.proofs.directions.spans_in.Tie as tie
 

@@ -4,7 +4,7 @@ use Prim.Native.Nat.{ℕ, _+_, _-_, _*_, _^_, _<_, _≤_}
 use native.Mathlib.Omega.{arith}
 use lib.ListN.{getD}
 use Rattle.nest.specs.Nest.{maxDepth, maxCube}
-use Rattle.mapping.proofs.Rows.{fit-at, bit-at, codeAt, Joining, joining-start, joining-more, joining-small, joining-end}
+use Rattle.mapping.proofs.Widths.{fit-at, bit-at, codeAt, Joining, joining-start, joining-more, joining-small, joining-end}
 use Rattle.mapping.proofs.processors.processor_of.Statement.{statement}
 use Rattle.mapping.proofs.processors.processor_of.Tie as tie
 

@@ -8,7 +8,7 @@ use Rattle.integers.specs.Lists.{tab}
 use Rattle.nest_text.specs.Text.{line}
 use Rattle.nest_text.specs.Stored.{Stored}
 use Rattle.nest_text.proofs.WriteLaws.{stored-none, stored-length, lines-more}
-use Rattle.planner.specs.Rows.{rowOf}
+use Rattle.planner.specs.Listing.{rowOf}
 use Rattle.planner.proofs.lines.put_rows.Statement.{statement}
 use Rattle.planner.proofs.lines.put_rows.Tie as tie
 

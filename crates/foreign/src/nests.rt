@@ -1,0 +1,136 @@
+// A nest as 45 numbers in a row, in the order of LoopNest's fields.
+use nest::Inspection;
+use nest::LoopNest;
+ghost use mathlib.Core.Path.{_≡_};
+ghost use Prim.Native.Nat.{_+_, _≤_, _<_};
+ghost use lib.ListN.{length};
+ghost use lib.Seq.{sets};
+ghost use Rattle.nest.specs.Nest.{part, countOf, maxDependences};
+ghost use Rattle.foreign.specs.Numbers.{nestIn, numbersOf, boundaryAt};
+ghost use Rattle.nest.specs.Points.{pointsOf};
+ghost use Rattle.nest.specs.Refusals.{refusal, Inspects};
+ghost use Rattle.nest.specs.Sources.{IsSource};
+
+// How many numbers its dependences have.
+const COMPONENTS: usize = LoopNest::MAX_DEPTH * LoopNest::MAX_DEPENDENCES;
+
+// Where the parts of a nest begin; the depth, the number of dependences and the cube
+// dimension stand before them.
+const LOWER: usize = 3;
+
+const UPPER: usize = LOWER + LoopNest::MAX_DEPTH;
+
+const TIME: usize = UPPER + LoopNest::MAX_DEPTH;
+
+const DEPENDENCES: usize = TIME + LoopNest::MAX_DEPTH;
+
+const BOUNDARY: usize = DEPENDENCES + COMPONENTS;
+
+const WEIGHTS: usize = BOUNDARY + 1;
+
+// How many numbers a nest has.
+pub const NUMBERS: usize = WEIGHTS + LoopNest::MAX_DEPENDENCES;
+
+// Copies n numbers, from place `from` of one array on, to place `at` of
+// another and those behind it.
+fn copy(out: &mut [i64], at: usize, numbers: &[i64], from: usize, n: usize)
+    requires { ⌜ (at + n ≤ length (now out)) × (from + n ≤ length (now numbers)) ⌝ }
+    ensures { λ _. ⌜ now (out .exit) ≡ sets (now (out .entry)) at (part (now (numbers .entry)) from n) ⌝ }
+{
+    for k in 0..n {
+        out[at + k] = numbers[from + k];
+    }
+}
+
+// The nest that 45 numbers are.
+pub fn nest_in(numbers: &[i64; NUMBERS]) -> LoopNest
+    ensures { λ r. ⌜ r ≡ nestIn (now (numbers .entry)) ⌝ }
+{
+    let mut lower = [0i64; LoopNest::MAX_DEPTH];
+    copy(&mut lower, 0, numbers, LOWER, LoopNest::MAX_DEPTH);
+    let mut upper = [0i64; LoopNest::MAX_DEPTH];
+    copy(&mut upper, 0, numbers, UPPER, LoopNest::MAX_DEPTH);
+    let mut time = [0i64; LoopNest::MAX_DEPTH];
+    copy(&mut time, 0, numbers, TIME, LoopNest::MAX_DEPTH);
+    let mut dependences = [0i64; COMPONENTS];
+    copy(&mut dependences, 0, numbers, DEPENDENCES, COMPONENTS);
+    let mut weights = [0i64; LoopNest::MAX_DEPENDENCES];
+    copy(&mut weights, 0, numbers, WEIGHTS, LoopNest::MAX_DEPENDENCES);
+    LoopNest {
+        depth: numbers[0],
+        count: numbers[1],
+        cube: numbers[2],
+        lower: lower,
+        upper: upper,
+        time: time,
+        dependences: dependences,
+        boundary: numbers[BOUNDARY],
+        weights: weights,
+    }
+}
+
+// `inspect` of the nest that 45 numbers are, which stays where it is.
+pub fn inspect_in(numbers: &[i64]) -> Inspection
+    requires { ⌜ length (now numbers) ≡ boundaryAt + 1 + maxDependences ⌝ }
+    ensures { λ r. ⌜ Inspects (nestIn (now (numbers .entry))) r ⌝ }
+{
+    nest::inspect_parts(
+        numbers[0],
+        numbers[1],
+        numbers[2],
+        &numbers[LOWER..UPPER],
+        &numbers[UPPER..TIME],
+        &numbers[TIME..DEPENDENCES],
+        &numbers[DEPENDENCES..BOUNDARY],
+        numbers[BOUNDARY],
+        &numbers[WEIGHTS..NUMBERS],
+    )
+}
+
+// The rank of the source of iteration k along dependence i, of the accepted nest of n iterations
+// that 45 numbers are; n where the source is none of them.
+pub fn source_in(numbers: &[i64], n: usize, k: usize, i: usize) -> usize
+    requires { ⌜ length (now numbers) ≡ boundaryAt + 1 + maxDependences ⌝ }
+    requires { ⌜ (refusal (nestIn (now numbers)) ≡ 0) × (n ≡ length (pointsOf (nestIn (now numbers)))) × (k < n)
+        × (i < countOf (nestIn (now numbers))) ⌝ }
+    ensures { λ r. ⌜ IsSource (nestIn (now (numbers .entry))) k i r ⌝ }
+{
+    let depth = nest::to_size(numbers[0]);
+    nest::source_rank(
+        &numbers[LOWER..UPPER],
+        &numbers[UPPER..TIME],
+        &numbers[DEPENDENCES..BOUNDARY],
+        depth,
+        n,
+        k,
+        i,
+    )
+}
+
+// The 45 numbers of a nest.
+pub fn numbers_of(s: LoopNest) -> [i64; NUMBERS]
+    ensures { λ r. ⌜ r ≡ numbersOf s ⌝ }
+{
+    let mut numbers = [0i64; NUMBERS];
+    let shape = [s.depth, s.count, s.cube];
+    copy(&mut numbers, 0, &shape, 0, 3);
+    let lower = s.lower;
+    copy(&mut numbers, LOWER, &lower, 0, LoopNest::MAX_DEPTH);
+    let upper = s.upper;
+    copy(&mut numbers, UPPER, &upper, 0, LoopNest::MAX_DEPTH);
+    let time = s.time;
+    copy(&mut numbers, TIME, &time, 0, LoopNest::MAX_DEPTH);
+    let dependences = s.dependences;
+    copy(&mut numbers, DEPENDENCES, &dependences, 0, COMPONENTS);
+    let boundary = s.boundary;
+    numbers[BOUNDARY] = boundary;
+    let weights = s.weights;
+    copy(
+        &mut numbers,
+        WEIGHTS,
+        &weights,
+        0,
+        LoopNest::MAX_DEPENDENCES,
+    );
+    numbers
+}
