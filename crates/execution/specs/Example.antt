@@ -1,6 +1,6 @@
--- Document 01's listing (P2) run move by move, computed on the definitions: refused moves of
--- every kind among them, to the sequential table. The buffers have an entry behind the last
--- iteration, which stays as it is.
+-- Serves as an example: document 01's listing (P2) run move by move, computed on the definitions,
+-- refused moves of every kind among them, to the sequential table. The buffers have an entry behind
+-- the last iteration, which stays as it is.
 -- Assumes nothing.
 use mathlib.Core.Path.{_≡_, refl}
 use mathlib.Core.List.{List, [], _∷_, flatMap, zipWith}

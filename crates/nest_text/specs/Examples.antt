@@ -1,5 +1,5 @@
--- Texts that a reader of document 01 would try, with the answers that it gives, as one table;
--- `answers-are` checks all of it on the definitions, by computation.
+-- Serves as examples: texts that a reader of document 01 would try, with the answers that it gives,
+-- as one table; `answers-are` checks all of it on the definitions, by computation.
 -- Assumes nothing.
 use mathlib.Core.Path.{_≡_, refl}
 use mathlib.Core.Bool.{true}

@@ -1,6 +1,6 @@
--- The examples P1 to P10 of document 01 ("Mixes to try"), the counts of 000's loops L1 and L2, and
--- two nests worked out by hand, as one table; `examples-hold` checks all of it on the definitions,
--- by computation. Where a case is silent: limits 0..3, time vector of ones, cube dimension 0,
+-- Serves as examples: P1 to P10 of document 01 ("Mixes to try"), the counts of 000's loops L1 and
+-- L2, and two nests worked out by hand, as one table; `examples-hold` checks all of it on the
+-- definitions, by computation. Where a case is silent: limits 0..3, time vector of ones, cube dimension 0,
 -- boundary value and weights 1, and the dependence is 1 in the innermost loop.
 -- Assumes nothing.
 use mathlib.Core.Path.{_≡_, refl}
