@@ -88,8 +88,8 @@ returns c =
       ),
     )
 
-pub coordinates_of-spec : {M : Type 1} → statement M
-coordinates_of-spec =
+pub coordinates-of-spec : {M : Type 1} → statement M
+coordinates-of-spec =
     tie.close
     (tie.spec
     inner-requires
