@@ -10,10 +10,12 @@ use lib.IntN.{ℤ}
 use lib.ListN.{length}
 use Rattle.integers.proofs.Lists.{split, clash}
 use Rattle.nest.specs.declared.LoopNest.{LoopNest}
-use Rattle.nest.specs.Refusals.{Refusal, number, firstMet, headerOrder, bodyOrder, refusal, Condition, Order, Answered, orderNumbers, FromOne, numbered}
+use Rattle.nest.specs.Refusals.{Refusal, number, firstMet, headerOrder, bodyOrder, refusal, Condition, Order, Answered}
+use Rattle.nest.specs.Refusals.{orderNumbers, FromOne, numbered}
 use Rattle.nest.proofs.Answers.{answered-append, one-append, numbered-answered, numbered-one, call-one, buffer-answered}
 use Rattle.nest_text.specs.Fields.{Bytes}
-use Rattle.nest_text.specs.Text.{textOf, numbersOf, behind, headerWidths, shapesOf, fits, isHeaded, headerWidthOf, headerNumbers, headed, headerOf}
+use Rattle.nest_text.specs.Text.{textOf, numbersOf, behind, headerWidths, shapesOf, fits, isHeaded, headerWidthOf}
+use Rattle.nest_text.specs.Text.{headerNumbers, headed, headerOf}
 use Rattle.nest_text.specs.Text.{restOf, isShaped, bodyOf, malformedUnless, readRefusal, writeRefusal, writeOrder}
 use Rattle.nest_text.specs.Form.{FirstLine, LineMalformed, LineMeets, Shaped, RestMalformed, NestMeets, readOrder}
 use Rattle.nest_text.proofs.LineBack.{numbers-length, read-begins, begins-read, shapes-iff}

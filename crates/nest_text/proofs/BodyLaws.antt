@@ -9,7 +9,8 @@ use native.Mathlib.Omega.{arith}
 use borrow.Author.Tests.{eq-eqb, ne-eqb, eqb-true, eqb-false, leb-true, leb-false, ltb-true, ltb-false}
 use lib.Dec.{eqb, leb, ltb}
 use lib.IntN.{ℤ, pos}
-use lib.ListN.{length, getD, take, drop, length-append, length-take, length-drop, length-replicate, length-map, List·getD-eq-default}
+use lib.ListN.{length, getD, take, drop, length-append, length-take, length-drop, length-replicate, length-map}
+use lib.ListN.{List·getD-eq-default}
 use lib.Seq.{drop-cons, drop-drop, drop-length, getD-drop, getD-take, take-suc, take-all, length-take-le}
 use Rattle.integers.specs.Lists.{any, tab}
 use Rattle.integers.proofs.Lists.{length-tab, and-true, split}
@@ -18,11 +19,13 @@ use Rattle.nest.specs.Nest.{Limit, padded, nestOf, emptyNest, maxDepth, maxDepe
 use Rattle.nest_text.specs.declared.reader.Line.{Line}
 use Rattle.nest_text.specs.declared.reader.Body.{Body}
 use Rattle.nest_text.specs.Fields.{Bytes, columns, newline}
-use Rattle.nest_text.specs.Text.{at, isMalformed, numberOf, fieldAt, isLine, numbersOf, behind, areLines, lineNumbers, widths, shapes, fits, nestFrom}
+use Rattle.nest_text.specs.Text.{at, isMalformed, numberOf, fieldAt, isLine, numbersOf, behind, areLines}
+use Rattle.nest_text.specs.Text.{lineNumbers, widths, shapes, fits, nestFrom}
 use Rattle.nest_text.specs.Reader.{maxFields, lineOf, withLine, filled, bodyRead}
 use Rattle.nest_text.proofs.FieldLaws.{rest-part}
 use Rattle.nest_text.proofs.ShapeLaws.{shapes-one, shapes-first}
-use Rattle.nest_text.proofs.RowLaws.{width-vector, width-last, limits-line, time-line, dependence-line, last-line}
+use Rattle.nest_text.proofs.RowLaws.{width-vector, width-last, limits-line, time-line, dependence-line}
+use Rattle.nest_text.proofs.RowLaws.{last-line}
 use Rattle.nest_text.proofs.FillLaws.{same-nest, filled-limit, filled-time, filled-dependence, filled-last}
 
 -- ---- what an answer of the line reader says

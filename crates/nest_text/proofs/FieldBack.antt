@@ -15,7 +15,9 @@ use lib.Seq.{drop-at}
 use Rattle.integers.proofs.Lists.{and-true}
 use Rattle.nest_text.specs.declared.fields.Field.the-variants.{Number}
 use Rattle.nest_text.specs.declared.fields.Run.the-variants.{Value, NoDigits}
-use Rattle.nest_text.specs.Fields.{Bytes, columns, space, minus, zeroDigit, nineDigit, sevenDigits, blanksOf, allDigits, valueOf, isDigit, digitsOf, signedOf, readOf, digitsTo, numeralOf, fieldOf, noLeadingZero}
+use Rattle.nest_text.specs.Fields.{Bytes, columns, space, minus, zeroDigit, nineDigit, sevenDigits, blanksOf}
+use Rattle.nest_text.specs.Fields.{allDigits, valueOf, isDigit, digitsOf, signedOf, readOf, digitsTo, numeralOf}
+use Rattle.nest_text.specs.Fields.{fieldOf, noLeadingZero}
 use Rattle.nest_text.specs.Stored.{InColumns}
 use Rattle.nest_text.proofs.FieldLaws.{tenth, within-neg, within-pos, two-digits, empty}
 use lib.Arith.{lt-of-le-ne}

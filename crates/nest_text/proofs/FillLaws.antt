@@ -10,7 +10,8 @@ use lib.Seq.{getD-drop, take-all, take-append-le, drop-append-le, getD-at}
 use Rattle.nest.specs.declared.LoopNest.{LoopNest}
 use Rattle.nest.specs.Nest.{padded, maxDepth, maxDependences}
 use Rattle.nest_text.specs.Text.{at}
-use Rattle.nest_text.specs.Reader.{maxFields, withLimitLine, withTimeLine, withDependenceLine, withLastLine, filled}
+use Rattle.nest_text.specs.Reader.{maxFields, withLimitLine, withTimeLine, withDependenceLine, withLastLine}
+use Rattle.nest_text.specs.Reader.{filled}
 use Rattle.nest.proofs.Padding.{padded-set, take-padded, padded-row, length-padded, at-padded, drop-padded}
 
 -- two nests with the same parts

@@ -6,12 +6,14 @@ use Prim.Native.Nat.{ℕ, zero, suc, _+_, _*_, _≤_, _<_}
 use native.Mathlib.Nat.{suc-ne-zero, suc-inj}
 use native.Mathlib.Omega.{arith}
 use lib.IntN.{ℤ, pos}
-use lib.ListN.{length, getD, take, drop, replicate, length-append, length-map, length-replicate, getD-replicate, List·getD-map}
+use lib.ListN.{length, getD, take, drop, replicate, length-append, length-map, length-replicate, getD-replicate}
+use lib.ListN.{List·getD-map}
 use lib.Seq.{take-at, drop-at, getD-at}
 use Rattle.integers.specs.Lists.{tab}
 use Rattle.integers.proofs.Lists.{length-tab, tab-list, map-tab}
 use Rattle.nest.specs.declared.LoopNest.{LoopNest}
-use Rattle.nest.specs.Nest.{Limit, part, depthOf, countOf, limitAt, limitsOf, timeOf, dependenceAt, dependencesOf, weightsOf, nestOf, cleared, maxDepth}
+use Rattle.nest.specs.Nest.{Limit, part, depthOf, countOf, limitAt, limitsOf, timeOf, dependenceAt, dependencesOf}
+use Rattle.nest.specs.Nest.{weightsOf, nestOf, cleared, maxDepth}
 use Rattle.nest_text.specs.Text.{linesOf, widths, at, nestFrom}
 use Rattle.nest.proofs.Places.{Fitting, made-limits, made-time, made-dependences, made-weights, made-cleared}
 

@@ -17,10 +17,13 @@ use Rattle.integers.proofs.Lists.{and-true, split}
 use Rattle.nest_text.specs.declared.fields.Field.the-variants.{Number, Malformed}
 use Rattle.nest_text.specs.declared.fields.Run.{Run}
 use Rattle.nest_text.specs.declared.fields.Run.the-variants.{Value, NoDigits}
-use Rattle.nest_text.specs.Fields.{columns, space, minus, zeroDigit, nineDigit, Bytes, blanksOf, isDigit, allDigits, valueOf, noLeadingZero, digitsOf, plain, negative, signedOf, readOf, digitsTo, numeralOf, fieldOf}
+use Rattle.nest_text.specs.Fields.{columns, space, minus, zeroDigit, nineDigit, Bytes, blanksOf, isDigit}
+use Rattle.nest_text.specs.Fields.{allDigits, valueOf, noLeadingZero, digitsOf, plain, negative, signedOf, readOf}
+use Rattle.nest_text.specs.Fields.{digitsTo, numeralOf, fieldOf}
 use Rattle.nest_text.specs.Form.{EachDigit, Decimal, decimal, digitBytes, Numeral, digits-alone, minus-digits}
 use Rattle.nest_text.specs.Stored.{InColumns}
-use Rattle.nest_text.proofs.FieldBack.{digit-is, value-of, spaced, blanks-split, head-tail, read-written, written-read}
+use Rattle.nest_text.proofs.FieldBack.{digit-is, value-of, spaced, blanks-split, head-tail, read-written}
+use Rattle.nest_text.proofs.FieldBack.{written-read}
 
 -- ---- digits and their bytes
 

@@ -19,8 +19,10 @@ use Rattle.nest_text.specs.declared.Reading.{Reading}
 use Rattle.nest_text.specs.declared.reader.Line.{Line}
 use Rattle.nest_text.specs.declared.reader.Body.{Body}
 use Rattle.nest_text.specs.Fields.{Bytes, columns}
-use Rattle.nest_text.specs.Text.{at, numbersOf, behind, lineNumbers, headerWidth, widths, isHeaded, headerNumbers, headed, headerOf}
-use Rattle.nest_text.specs.Text.{restOf, isShaped, bodyNumbers, nestFrom, bodyOf, malformedUnless, readRefusal, readNest}
+use Rattle.nest_text.specs.Text.{at, numbersOf, behind, lineNumbers, headerWidth, widths, isHeaded, headerNumbers}
+use Rattle.nest_text.specs.Text.{headed, headerOf}
+use Rattle.nest_text.specs.Text.{restOf, isShaped, bodyNumbers, nestFrom, bodyOf, malformedUnless, readRefusal}
+use Rattle.nest_text.specs.Text.{readNest}
 use Rattle.nest_text.specs.Reader.{maxFields, lineOf, headerRefusal, headerRead, filled, bodyRead}
 use Rattle.nest_text.proofs.FieldLaws.{rest-part}
 use Rattle.nest.proofs.Padding.{at-padded}

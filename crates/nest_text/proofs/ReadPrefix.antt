@@ -17,11 +17,15 @@ use Rattle.nest.specs.declared.LoopNest.{LoopNest}
 use Rattle.nest.specs.Nest.{depthOf, countOf, emptyNest, maxDepth, maxDependences}
 use Rattle.nest.specs.Refusals.{firstMet, headerOrder, bodyOrder, refusal, orElse}
 use Rattle.nest_text.specs.Fields.{columns, Bytes, newline, readOf}
-use Rattle.nest_text.specs.Text.{lineLength, headerWidth, limitWidth, textLength, textOf, isMalformed, numberOf, fieldAt, isLine, numbersOf, behind, areLines, lineNumbers}
-use Rattle.nest_text.specs.Text.{headerWidths, Shape, widths, shapes, shapesOf, fits, firstFitting, isHeaded, headerWidthOf, headerNumbers, headed, headerOf}
-use Rattle.nest_text.specs.Text.{restOf, isShaped, bodyNumbers, nestFrom, bodyOf, malformedUnless, readRefusal, readNest, readMost}
+use Rattle.nest_text.specs.Text.{lineLength, headerWidth, limitWidth, textLength, textOf, isMalformed, numberOf}
+use Rattle.nest_text.specs.Text.{fieldAt, isLine, numbersOf, behind, areLines, lineNumbers}
+use Rattle.nest_text.specs.Text.{headerWidths, Shape, widths, shapes, shapesOf, fits, firstFitting, isHeaded}
+use Rattle.nest_text.specs.Text.{headerWidthOf, headerNumbers, headed, headerOf}
+use Rattle.nest_text.specs.Text.{restOf, isShaped, bodyNumbers, nestFrom, bodyOf, malformedUnless, readRefusal}
+use Rattle.nest_text.specs.Text.{readNest, readMost}
 use Rattle.nest.proofs.Spans.{spans, HeaderSpans, header-spans}
-use Rattle.nest_text.proofs.ShapeLaws.{any-same, first-same, one-listed, fitting-listed, none-fitting, header-narrow}
+use Rattle.nest_text.proofs.ShapeLaws.{any-same, first-same, one-listed, fitting-listed, none-fitting}
+use Rattle.nest_text.proofs.ShapeLaws.{header-narrow}
 use Rattle.nest_text.proofs.TextLength.{text-most}
 use Rattle.nest.proofs.Entries.{orElse-zero}
 

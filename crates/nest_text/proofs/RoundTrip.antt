@@ -12,25 +12,34 @@ use lib.ListN.{length, getD}
 use Rattle.integers.specs.Lists.{tab}
 use Rattle.integers.proofs.Lists.{and-true, true-T, map-tab}
 use Rattle.nest.specs.declared.LoopNest.{LoopNest}
-use Rattle.nest.specs.Nest.{part, depthOf, countOf, limitAt, limitsOf, timeOf, dependenceAt, dependencesOf, weightsOf, cleared, maxDepth}
+use Rattle.nest.specs.Nest.{part, depthOf, countOf, limitAt, limitsOf, timeOf, dependenceAt, dependencesOf, weightsOf}
+use Rattle.nest.specs.Nest.{cleared, maxDepth}
 use Rattle.nest.specs.Refusals.{firstMet, headerOrder, refusal}
 use Rattle.nest.proofs.FirstMet.{accepted-header}
 use Rattle.nest_text.specs.declared.Reading.{Reading}
 use Rattle.nest_text.specs.Fields.{columns, leastNumber, greatestNumber, Bytes, fieldOf}
-use Rattle.nest_text.specs.Text.{line, linesOf, textOf, areLines, lineNumbers, headerWidth, Shape, widths, shapes, shapesOf, fits, firstFitting}
-use Rattle.nest_text.specs.Text.{isHeaded, headerWidthOf, headerNumbers, headed, headerOf, restOf, isShaped, bodyNumbers, nestFrom, bodyOf, readRefusal, readNest}
+use Rattle.nest_text.specs.Text.{line, linesOf, textOf, areLines, lineNumbers, headerWidth, Shape, widths, shapes}
+use Rattle.nest_text.specs.Text.{shapesOf, fits, firstFitting}
+use Rattle.nest_text.specs.Text.{isHeaded, headerWidthOf, headerNumbers, headed, headerOf, restOf, isShaped}
+use Rattle.nest_text.specs.Text.{bodyNumbers, nestFrom, bodyOf, readRefusal, readNest}
 use Rattle.nest_text.specs.Reader.{headerRefusal}
 use Rattle.nest_text.specs.Stored.{InColumns}
 use Rattle.nest_text.specs.Form.{Consists, Whole, WrittenRead}
 use Rattle.nest_text.proofs.WriteLaws.{field-length}
 use Rattle.nest.proofs.Spans.{Spans, spans, HeaderSpans, header-spans}
 use Rattle.nest.proofs.Refused.{accepted}
-use Rattle.nest_text.proofs.TextLength.{shapeLine, shape-columns, limits-columns, time-columns, dependence-columns, boundary-columns, weight-columns}
-use Rattle.nest_text.proofs.LineBack.{AllInColumns, LinesInColumns, LineRead, all-tab, line-read, lines-read, line-again, lines-again, lines-widths, numbers-length, consists-written, written-consists}
-use Rattle.nest_text.proofs.ShapeLaws.{fitting-fits, shapes-one, shapes-first, header-line, header-one, header-numbers, rest-behind}
-use Rattle.nest_text.proofs.ReadLaws.{same-shape, header-checked, header-zero, whole-passed, header-form, header-fits, rest-form, rest-checked}
+use Rattle.nest_text.proofs.TextLength.{shapeLine, shape-columns, limits-columns, time-columns}
+use Rattle.nest_text.proofs.TextLength.{dependence-columns, boundary-columns, weight-columns}
+use Rattle.nest_text.proofs.LineBack.{AllInColumns, LinesInColumns, LineRead, all-tab, line-read, lines-read}
+use Rattle.nest_text.proofs.LineBack.{line-again, lines-again, lines-widths, numbers-length, consists-written}
+use Rattle.nest_text.proofs.LineBack.{written-consists}
+use Rattle.nest_text.proofs.ShapeLaws.{fitting-fits, shapes-one, shapes-first, header-line, header-one}
+use Rattle.nest_text.proofs.ShapeLaws.{header-numbers, rest-behind}
+use Rattle.nest_text.proofs.ReadLaws.{same-shape, header-checked, header-zero, whole-passed, header-form}
+use Rattle.nest_text.proofs.ReadLaws.{header-fits, rest-form, rest-checked}
 use Rattle.nest.proofs.Places.{cleared-refusal}
-use Rattle.nest_text.proofs.NestLines.{Lines, pair, bodyLines, nest-again, body-widths, triple-back, Parts, parts, made, made-is, made-lines, made-clear}
+use Rattle.nest_text.proofs.NestLines.{Lines, pair, bodyLines, nest-again, body-widths, triple-back, Parts}
+use Rattle.nest_text.proofs.NestLines.{parts, made, made-is, made-lines, made-clear}
 
 -- ---- every number of every line has room in six columns
 

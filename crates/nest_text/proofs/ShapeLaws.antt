@@ -11,7 +11,8 @@ use Rattle.integers.specs.Lists.{any, first}
 use Rattle.integers.proofs.Lists.{T-true, any-at, any-one, split}
 use Rattle.integers.proofs.ListFacts.{mem-getD, first-passes, first-mem, first-at, first-empty}
 use Rattle.nest_text.specs.Fields.{Bytes}
-use Rattle.nest_text.specs.Text.{isLine, numbersOf, behind, areLines, headerWidth, headerWidths, Shape, widths, shapes, fits, firstFitting, isHeaded, headerWidthOf, headerNumbers, restOf}
+use Rattle.nest_text.specs.Text.{isLine, numbersOf, behind, areLines, headerWidth, headerWidths, Shape, widths}
+use Rattle.nest_text.specs.Text.{shapes, fits, firstFitting, isHeaded, headerWidthOf, headerNumbers, restOf}
 
 -- ---- the first of a list that passes a test
 

@@ -11,7 +11,8 @@ use lib.ListN.{length, getD, length-append}
 use Rattle.integers.specs.Lists.{tab}
 use Rattle.integers.proofs.Lists.{flatMap-append, flatMap-one, flatMap-length, map-tab}
 use Rattle.nest.specs.declared.LoopNest.{LoopNest}
-use Rattle.nest.specs.Nest.{Limit, part, depthOf, countOf, limitAt, limitsOf, timeOf, dependenceAt, dependencesOf, weightsOf, maxDepth, maxDependences, maxCube, maxBoundary, maxWeight}
+use Rattle.nest.specs.Nest.{Limit, part, depthOf, countOf, limitAt, limitsOf, timeOf, dependenceAt, dependencesOf}
+use Rattle.nest.specs.Nest.{weightsOf, maxDepth, maxDependences, maxCube, maxBoundary, maxWeight}
 use Rattle.nest_text.specs.Fields.{Bytes, fieldOf}
 use Rattle.nest_text.specs.Text.{line, lineLength, headerWidth, limitWidth, linesOf, textOf, textLength}
 use Rattle.nest_text.specs.Stored.{InColumns, EachInColumns}

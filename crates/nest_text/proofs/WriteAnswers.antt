@@ -10,7 +10,8 @@ use borrow.Author.Tests.{eq-eqb, ne-eqb}
 use lib.ListN.{length, drop}
 use lib.Seq.{sets, sets-eq}
 use Rattle.nest.specs.Refusals.{orElse, shortBuffer}
-use Rattle.nest.proofs.Entries.{orElse-first, orElse-second, orElse-zero, long-enough, too-short, same-table, made-table}
+use Rattle.nest.proofs.Entries.{orElse-first, orElse-second, orElse-zero, long-enough, too-short, same-table}
+use Rattle.nest.proofs.Entries.{made-table}
 use Rattle.nest_text.specs.declared.Writing.{Writing}
 use Rattle.nest_text.specs.Fields.{Bytes}
 use Rattle.nest_text.specs.Text.{writeRefusal, writtenLength, written, Puts}

@@ -13,7 +13,8 @@ use Rattle.integers.specs.Vector.{dots, eqZ, eqV}
 use Rattle.nest.specs.Nest.{toℕ, part, limitsOf, timeOf, dependencesOf, weightsOf, padded, nestOf, emptyNest}
 use Rattle.nest.specs.Points.{extent, pointCount}
 use Rattle.nest.specs.Refusals.{number, outside, crossed, outOfSpan, backward, holds, firstMet, orElse}
-use Rattle.nest_text.specs.Fields.{Bytes, newline, space, blanksOf, allDigits, valueOf, digitsOf, signedOf, readOf}
+use Rattle.nest_text.specs.Fields.{Bytes, newline, space, blanksOf, allDigits, valueOf, digitsOf, signedOf}
+use Rattle.nest_text.specs.Fields.{readOf}
 use Rattle.nest_text.specs.Text.{isLine, numbersOf, areLines, lineNumbers, widths, shapes, fits, firstFitting}
 use Rattle.nest_text.specs.Text.{isHeaded, headerWidthOf, headerNumbers, headed, headerOf}
 use Rattle.nest_text.specs.Text.{restOf, isShaped, bodyNumbers, nestFrom, bodyOf, readRefusal}

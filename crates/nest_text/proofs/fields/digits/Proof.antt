@@ -11,7 +11,8 @@ use lib.Dec.{ltb, lit<}
 use lib.ListN.{length, drop, getD}
 use denote.Ref.{now}
 use Rattle.nest_text.specs.declared.fields.Run.the-variants.{NoDigits}
-use Rattle.nest_text.specs.Fields.{Bytes, zeroDigit, nineDigit, isDigit, allDigits, valueOf, noLeadingZero, digitsOf}
+use Rattle.nest_text.specs.Fields.{Bytes, zeroDigit, nineDigit, isDigit, allDigits, valueOf, noLeadingZero}
+use Rattle.nest_text.specs.Fields.{digitsOf}
 use Rattle.nest_text.proofs.FieldLaws.{digits-more, value-more, digits-end, value-end, pow-add-one}
 use Rattle.nest_text.proofs.fields.digits.Statement.{statement}
 use Rattle.nest_text.proofs.fields.digits.Tie as tie

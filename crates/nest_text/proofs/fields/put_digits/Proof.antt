@@ -8,7 +8,8 @@ use borrow.Author.Needs.{needs}
 use lib.ListN.{length, set, drop, take, length-set, length-drop, take-append-drop}
 use lib.Seq.{drop-length}
 use Rattle.nest_text.specs.Fields.{Bytes, columns, zeroDigit, digitsTo}
-use Rattle.nest_text.proofs.FieldLaws.{drop-set-here, take-set-before, two-digits, tenth, digits-ten, digits-last}
+use Rattle.nest_text.proofs.FieldLaws.{drop-set-here, take-set-before, two-digits, tenth, digits-ten}
+use Rattle.nest_text.proofs.FieldLaws.{digits-last}
 use Rattle.nest_text.proofs.fields.put_digits.Statement.{statement}
 use Rattle.nest_text.proofs.fields.put_digits.Tie as tie
 

@@ -6,7 +6,8 @@ use native.Mathlib.Omega.{arith}
 use borrow.Author.Tests.{not-true, not-false}
 use lib.ListN.{length}
 use Rattle.nest_text.specs.Text.{lineLength}
-use Rattle.nest_text.proofs.BodyLaws.{Reached, reached-start, turn-more, turn-malformed, body-trailing, body-whole, body-malformed}
+use Rattle.nest_text.proofs.BodyLaws.{Reached, reached-start, turn-more, turn-malformed, body-trailing}
+use Rattle.nest_text.proofs.BodyLaws.{body-whole, body-malformed}
 use Rattle.nest_text.proofs.reader.read_body.Statement.{statement}
 use Rattle.nest_text.proofs.reader.read_body.Tie as tie
 

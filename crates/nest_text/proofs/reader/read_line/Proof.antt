@@ -9,7 +9,8 @@ use Rattle.nest_text.specs.declared.fields.Field.the-variants.{Number, M
 use Rattle.nest_text.specs.Text.{fieldAt}
 use Rattle.nest_text.specs.Fields.{columns}
 use Rattle.nest_text.proofs.FieldLaws.{back}
-use Rattle.nest_text.proofs.LineLaws.{LineRead, line-unended, line-short, field-of-line, field-malformed, line-start, line-more, line-end}
+use Rattle.nest_text.proofs.LineLaws.{LineRead, line-unended, line-short, field-of-line, field-malformed}
+use Rattle.nest_text.proofs.LineLaws.{line-start, line-more, line-end}
 use Rattle.nest_text.proofs.reader.read_line.Statement.{statement}
 use Rattle.nest_text.proofs.reader.read_line.Tie as tie
 

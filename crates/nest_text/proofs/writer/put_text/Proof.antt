@@ -22,7 +22,8 @@ use Rattle.nest_text.proofs.WriteLaws.{stored-more, stored-as, stored-l
 use Rattle.nest.proofs.Spans.{Spans, spans}
 use Rattle.nest_text.proofs.TextLength.{shapeLine, limitLine, limitLines, text-parts, text-length}
 use Rattle.nest_text.proofs.TextLength.{shape-length, limits-length, time-length, dependences-length}
-use Rattle.nest_text.proofs.TextLength.{shape-columns, limits-columns, time-columns, dependence-columns, boundary-columns, weight-columns}
+use Rattle.nest_text.proofs.TextLength.{shape-columns, limits-columns, time-columns, dependence-columns}
+use Rattle.nest_text.proofs.TextLength.{boundary-columns, weight-columns}
 use Rattle.nest_text.proofs.writer.put_text.Statement.{statement}
 use Rattle.nest_text.proofs.writer.put_text.Tie as tie
 
