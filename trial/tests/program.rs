@@ -149,3 +149,21 @@ fn through_a_symbolic_link_from_another_folder() {
     let output = Command::new("./plan").arg("a sheet.txt").current_dir(&folder).output();
     assert_planned(&output.expect("./plan starts"), &fs::read(&sheet).expect("it"), "linked");
 }
+
+#[test]
+fn the_program_runs_on_a_stack_of_512_kib() {
+    // 16 x 16 x 16 iterations with hardly two on one projection line
+    let lines =
+        "     3     1     6\n     0    15\n     0    15\n     0    15\n    16    15    13\n";
+    let scattered = format!("{lines}     0     0     1\n     1     1\n");
+    let square = fs::read_to_string(root().join("examples/P9.txt")).expect("a sheet");
+    for text in [scattered, square] {
+        assert_planned(&plan(&[], text.as_bytes()), text.as_bytes(), "on the usual stack");
+        let sheet = place("stack.txt");
+        fs::write(&sheet, &text).expect("a copy");
+        let line = format!("ulimit -s 512; env -i target/bin/plan <'{}'", sheet.display());
+        let output = shell(&line);
+        assert!(output.status.success(), "{:?}", output.status);
+        assert_eq!(String::from_utf8_lossy(&output.stdout), listing(text.as_bytes()));
+    }
+}
