@@ -14,12 +14,13 @@ use Rattle.nest.specs.Refusals.{Refusal, number, firstMet, headerOrder, bodyOrd
 use Rattle.nest.specs.Refusals.{orderNumbers, FromOne, numbered}
 use Rattle.nest.proofs.Answers.{answered-append, one-append, numbered-answered, numbered-one, call-one, buffer-answered}
 use Rattle.nest_text.specs.Fields.{Bytes}
-use Rattle.nest_text.specs.Text.{textOf, numbersOf, behind, headerWidths, shapesOf, fits, isHeaded, headerWidthOf}
+use Rattle.nest_text.specs.Text.{textOf, headerWidths, shapesOf, fits, isHeaded, headerWidthOf}
 use Rattle.nest_text.specs.Text.{headerNumbers, headed, headerOf}
 use Rattle.nest_text.specs.Text.{restOf, isShaped, bodyOf, malformedUnless, readRefusal, writeRefusal, writeOrder}
 use Rattle.nest_text.specs.Form.{FirstLine, LineMalformed, LineMeets, Shaped, RestMalformed, NestMeets, readOrder}
-use Rattle.nest_text.proofs.LineBack.{numbers-length, read-begins, begins-read, shapes-iff}
-use Rattle.nest_text.proofs.ShapeLaws.{one-listed, header-line, header-listed, listed-header, header-width}
+use Rattle.nest_text.proofs.LineBack.{LineRead, numbers-length, headed-line, numbers-line, rest-line}
+use Rattle.nest_text.proofs.LineBack.{read-begins, begins-read, shapes-iff}
+use Rattle.nest_text.proofs.ShapeLaws.{header-line, header-listed}
 use Rattle.nest_text.proofs.ReadLaws.{form-kept, header-checked}
 use Rattle.nest_text.proofs.RoundTrip.{whole-body, body-whole}
 
@@ -45,23 +46,22 @@ module _ (bs : Bytes) where
 
   -- what a text is read as whose line 1 says these numbers
   module _ (zs : List ℤ) (rest : Bytes) (f : FirstLine bs zs rest) where
-    -- line 1 is in form
-    is-headed : isHeaded bs ≡ true
-    is-headed = listed-header bs (length zs) (f .0) (begins-read bs zs rest (f .1) .in-form)
+    -- line 1 is read, with its numbers and the rest
+    line-is : LineRead zs rest bs
+    line-is = begins-read bs zs rest (f .1)
 
-    -- it is read with as many fields
-    width-is : headerWidthOf bs ≡ length zs
-    width-is = header-width bs is-headed ∙ sym (one-listed (f .0))
+    -- it is in form
+    is-headed : isHeaded bs ≡ true
+    is-headed = headed-line zs rest bs line-is (f .0)
 
     -- so it says them
     header-of : headerOf bs ≡ headed zs
-    unfolding headerOf headerNumbers
-    header-of = ap headed (ap (λ k. numbersOf k bs) width-is ∙ begins-read bs zs rest (f .1) .numbers)
+    unfolding headerOf
+    header-of = ap headed (numbers-line zs rest bs line-is (f .0))
 
     -- and the rest stands behind it
     rest-of : restOf bs ≡ rest
-    unfolding restOf
-    rest-of = ap (λ k. behind k bs) width-is ∙ begins-read bs zs rest (f .1) .rest-is
+    rest-of = rest-line zs rest bs line-is (f .0)
 
     -- where the rest has none of the shapes that they allow, the test says so
     not-shaped : (Shaped rest (shapesOf (headed zs)) → ⊥) → isShaped bs ≡ false

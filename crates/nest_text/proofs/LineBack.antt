@@ -9,7 +9,7 @@ use Prim.Native.Nat.{ℕ, zero, suc, _+_, _*_, _≤_, _<_}
 use native.Mathlib.Nat.{le-of-suc-le-suc, not-suc-le-zero}
 use native.Mathlib.Numerals.{add-one}
 use native.Mathlib.Omega.{arith}
-use borrow.Author.Tests.{eq-eqb, eqb-true, not-true, ltb-true, ltb-false}
+use borrow.Author.Tests.{eq-eqb, eqb-true, not-true, lt-ltb, ltb-true, ltb-false}
 use lib.Dec.{eqb, ltb}
 use lib.IntN.{ℤ, pos}
 use lib.ListN.{length, getD, take, drop, length-append, length-drop, take-append-drop, List·getD-eq-default}
@@ -18,14 +18,16 @@ use Rattle.integers.specs.Lists.{any, tab}
 use Rattle.integers.proofs.Lists.{clash, split, and-true, length-tab, any-tab-each, any-tab-none, tab-list, flatMap-append, flatMap-one}
 use Rattle.nest_text.specs.declared.fields.Field.{Field}
 use Rattle.nest_text.specs.declared.fields.Field.the-variants.{Number, Malformed}
-use Rattle.nest_text.specs.Fields.{columns, Bytes, newline, fieldOf, readOf}
-use Rattle.nest_text.specs.Text.{lineLength, line, isMalformed, numberOf, fieldAt, isLine, numbersOf, behind, areLines, lineNumbers, Shape, fits, firstFitting}
+use Rattle.nest_text.specs.Fields.{columns, Bytes, newline, blanksOf, allDigits, digitsOf, signedOf, readOf, fieldOf}
+use Rattle.nest_text.specs.Text.{lineLength, line, isMalformed, numberOf, fieldAt, isLine, numbersOf, behind}
+use Rattle.nest_text.specs.Text.{areLines, lineNumbers, Shape, fits, firstFitting}
+use Rattle.nest_text.specs.Text.{headerWidths, isHeaded, headerWidthOf, headerNumbers, restOf}
 use Rattle.nest_text.specs.Stored.{InColumns}
 use Rattle.nest_text.specs.Form.{Begins, Consists, Shaped}
 use Rattle.nest_text.proofs.FieldBack.{read-written}
 use Rattle.nest_text.proofs.Numerals.{field-iff, field-words}
 use Rattle.nest_text.proofs.WriteLaws.{field-length, line-cons}
-use Rattle.nest_text.proofs.ShapeLaws.{fitting-fits, fitting-listed, listed-shape}
+use Rattle.nest_text.proofs.ShapeLaws.{fitting-fits, fitting-listed, listed-shape, header-line, listed-header}
 
 -- ---- numbers that six columns hold
 abbrev pub AllInColumns : List ℤ → Type 0
@@ -159,6 +161,54 @@ line-again k bs h =
 pub numbers-length : (k : ℕ) (bs : Bytes) → length (numbersOf k bs) ≡ k
 unfolding numbersOf
 numbers-length k bs = length-tab (λ i. numberOf (fieldAt bs i)) k
+
+-- ---- a line has one number of fields alone
+
+-- byte 10 begins no number
+newline-malformed : (l : Bytes) → readOf (newline ∷ l) ≡ Malformed
+unfolding readOf blanksOf signedOf digitsOf allDigits
+newline-malformed l = rw (lt-ltb 0 (suc (length l)) (omega arith)) refl
+
+-- where a line of j fields ends, no field of a longer line stands
+no-longer : (j k : ℕ) (bs : Bytes) → j < k → isLine j bs ≡ true → isLine k bs ≡ true → ⊥
+unfolding isLine
+no-longer j k bs l h g =
+    let a = and-true (not (any isMalformed (tab (fieldAt bs) j))) (eqb (getD bs (columns * j) 0) newline) h in
+    let b = and-true (not (any isMalformed (tab (fieldAt bs) k))) (eqb (getD bs (columns * k) 0) newline) g in
+    let ten : getD bs (columns * j) 0 ≡ newline = eqb-true (getD bs (columns * j) 0) newline (a .1) in
+    let room : columns * j < length bs = reaches bs (columns * j) newline (omega arith) ten in
+    let there : drop (columns * j) bs ≡ newline ∷ drop (suc (columns * j)) bs =
+    drop-cons bs (columns * j) 0 room ∙ ap (λ (x : ℕ). x ∷ drop (suc (columns * j)) bs) ten in
+    let none : isMalformed (fieldAt bs j) ≡ false = any-tab-each isMalformed (fieldAt bs) k j (not-true (any isMalformed (tab (fieldAt bs) k)) (b .0)) l in
+    let bad : fieldAt bs j ≡ Malformed = ap (λ (x : Bytes). readOf (take columns x)) there ∙ newline-malformed (take 5 (drop (suc (columns * j)) bs)) in
+    clash (ap isMalformed bad) none
+
+-- so two lines with which the bytes begin have as many
+pub line-unique : (j k : ℕ) (bs : Bytes) → isLine j bs ≡ true → isLine k bs ≡ true → j ≡ k
+line-unique j k bs h g =
+    split (ltb j k)
+    (λ t. absurd (no-longer j k bs (ltb-true j k t) h g))
+    (λ f. split (ltb k j) (λ t. absurd (no-longer k j bs (ltb-true k j t) g h)) (λ e. omega (arith, ltb-false j k f, ltb-false k j e)))
+
+-- bytes that begin with a line of one of the numbers of fields that line 1 may have
+module _ (zs : List ℤ) (rest bs : Bytes) (r : LineRead zs rest bs) (listed : List·Memᴰ (length zs) headerWidths) where
+  -- have line 1 in form
+  pub headed-line : isHeaded bs ≡ true
+  headed-line = listed-header bs (length zs) listed (r .in-form)
+
+  -- it is read with as many
+  width-line : headerWidthOf bs ≡ length zs
+  width-line = line-unique (headerWidthOf bs) (length zs) bs (header-line bs headed-line) (r .in-form)
+
+  -- so it says these numbers
+  pub numbers-line : headerNumbers bs ≡ zs
+  unfolding headerNumbers
+  numbers-line = ap (λ k. numbersOf k bs) width-line ∙ r .numbers
+
+  -- and the rest stands behind it
+  pub rest-line : restOf bs ≡ rest
+  unfolding restOf
+  rest-line = ap (λ k. behind k bs) width-line ∙ r .rest-is
 
 -- no byte is left
 none-left : (bs : Bytes) → eqb (length bs) 0 ≡ true → bs ≡ []

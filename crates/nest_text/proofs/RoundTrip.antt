@@ -30,11 +30,12 @@ use Rattle.nest.proofs.Spans.{Spans, spans, HeaderSpans, header-spans}
 use Rattle.nest.proofs.Refused.{accepted}
 use Rattle.nest_text.proofs.TextLength.{shapeLine, shape-columns, limits-columns, time-columns}
 use Rattle.nest_text.proofs.TextLength.{dependence-columns, boundary-columns, weight-columns}
+use Rattle.nest_text.proofs.LineBack.{headed-line, numbers-line, rest-line}
 use Rattle.nest_text.proofs.LineBack.{AllInColumns, LinesInColumns, LineRead, all-tab, line-read, lines-read}
 use Rattle.nest_text.proofs.LineBack.{line-again, lines-again, lines-widths, numbers-length, consists-written}
 use Rattle.nest_text.proofs.LineBack.{written-consists}
-use Rattle.nest_text.proofs.ShapeLaws.{fitting-fits, shapes-one, shapes-first, header-line, header-one}
-use Rattle.nest_text.proofs.ShapeLaws.{header-numbers, rest-behind}
+use Rattle.nest_text.proofs.ShapeLaws.{fitting-fits, shapes-one, shapes-first, header-line}
+use Rattle.nest_text.proofs.ShapeLaws.{header-numbers}
 use Rattle.nest_text.proofs.ReadLaws.{same-shape, header-checked, header-zero, whole-passed, header-form}
 use Rattle.nest_text.proofs.ReadLaws.{header-fits, rest-form, rest-checked}
 use Rattle.nest.proofs.Places.{cleared-refusal}
@@ -113,16 +114,16 @@ record TextRead (s : LoopNest) (bs : Bytes) : Type 0 where
 module _ (s : LoopNest) (bs rest : Bytes) (r : LineRead (shapeLine s) rest bs) (b : (areLines (map length (bodyLines s)) rest ≡ true) × (lineNumbers (map length (bodyLines s)) rest ≡ bodyLines s)) where
   -- line 1 is in form
   first-read : isHeaded bs ≡ true
-  first-read = header-one bs ∙ r .in-form
+  first-read = headed-line (shapeLine s) rest bs r (List·Memᴰ·head refl)
 
   -- it says what it said
   header-read : headerOf bs ≡ headed (shapeLine s)
   unfolding headerOf
-  header-read = ap headed (header-numbers bs first-read ∙ r .numbers)
+  header-read = ap headed (numbers-line (shapeLine s) rest bs r (List·Memᴰ·head refl))
 
   -- the other lines stand behind it
   rest-read : restOf bs ≡ rest
-  rest-read = rest-behind bs first-read ∙ r .rest-is
+  rest-read = rest-line (shapeLine s) rest bs r (List·Memᴰ·head refl)
 
   -- so their shapes are those of the nest
   shapes-read : shapesOf (headerOf bs) ≡ shapesOf s
