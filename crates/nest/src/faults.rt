@@ -35,12 +35,12 @@ fn is_crossed(lower: i64, upper: i64) -> bool
     upper < lower
 }
 
-// Whether one of n places of an array, from place `from` on, is not from low to high.
-pub fn any_outside(xs: &[i64], from: usize, n: usize, low: i64, high: i64) -> bool
-    requires { ⌜ from + n ≤ length (now xs) ⌝ }
-    ensures { λ r. ⌜ r ≡ any (outside low high) (part (now (xs .entry)) from n) ⌝ }
+// Whether one of so many places of an array, from place `from` on, is not from low to high.
+pub fn any_outside(xs: &[i64], from: usize, count: usize, low: i64, high: i64) -> bool
+    requires { ⌜ from + count ≤ length (now xs) ⌝ }
+    ensures { λ r. ⌜ r ≡ any (outside low high) (part (now (xs .entry)) from count) ⌝ }
 {
-    for k in 0..n {
+    for k in 0..count {
         if is_outside(low, high, xs[from + k]) {
             return true;
         }

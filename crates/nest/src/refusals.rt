@@ -240,18 +240,18 @@ pub fn inspect(s: LoopNest) -> Inspection
     )
 }
 
-// 14 if one of four lent tables has fewer than n entries, 0 otherwise.
-pub fn check_room(n: usize, first: usize, second: usize, third: usize, fourth: usize) -> u8
-    ensures { λ r. ⌜ r ≡ noRoom n first second third fourth ⌝ }
+// 14 if one of four lent tables has fewer entries than there are iterations, 0 otherwise.
+pub fn check_room(iterations: usize, first: usize, second: usize, third: usize, fourth: usize) -> u8
+    ensures { λ r. ⌜ r ≡ noRoom iterations first second third fourth ⌝ }
 {
-    if first < n {
+    if first < iterations {
         return SHORT_BUFFER;
     }
-    if second < n {
+    if second < iterations {
         return SHORT_BUFFER;
     }
-    if third < n {
+    if third < iterations {
         return SHORT_BUFFER;
     }
-    if fourth < n { SHORT_BUFFER } else { 0 }
+    if fourth < iterations { SHORT_BUFFER } else { 0 }
 }

@@ -52,7 +52,7 @@ is-outside-requires c κs = search needs
 returns : tie.Need-returns Inv-loop μ-loop
 returns c =
     let a = c .before .before .before .before .before .args in
-    sym (part-found (outside (a .low) (a .high)) (a .xs .now) (a .from) (a .n) (c .before .before .before .before .loop .k) (search needs) (sym (test (c .before)) ∙ c .if1 .taken))
+    sym (part-found (outside (a .low) (a .high)) (a .xs .now) (a .from) (a .count) (c .before .before .before .before .loop .k) (search needs) (sym (test (c .before)) ∙ c .if1 .taken))
 
 add-k : tie.Need-add-k Inv-loop μ-loop
 add-k c = search needs
@@ -74,7 +74,7 @@ loop-again c =
 returns-2 : tie.Need-returns-2 Inv-loop μ-loop
 returns-2 c =
     let s = c .before .before in
-    let e : c .before .loop .k ≡ s .args .n = omega arith in
+    let e : c .before .loop .k ≡ s .args .count = omega arith in
     sym (rw (toZ-ofZ (s .fits .low), toZ-ofZ (s .fits .high), e) at (c .before .loop .inv .1))
 
 pub any-outside-spec : {M : Type 1} → statement M
