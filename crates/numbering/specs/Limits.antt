@@ -25,6 +25,6 @@ maxCoordinate = 1000
 abbrev pub HasRow : List ℤ → ℕ → Type 0
 HasRow t i = i * components + components ≤ length t
 
--- a table has n rows
+-- a table has so many rows
 abbrev pub HasRows : List ℤ → ℕ → Type 0
-HasRows t n = n * components ≤ length t
+HasRows t count = count * components ≤ length t

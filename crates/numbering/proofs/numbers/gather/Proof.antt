@@ -28,11 +28,11 @@ abbrev number : Start → ℕ → ℕ
 number d i = getD (d .args .numbers .now) i 0
 
 -- it is at most i
-low : (d : Start) (i : ℕ) → i < d .args .n → number d i ≤ i
-low d i l = omega (arith, d .pre .1 .1 i l, number-low (d .args .table .now) (d .args .n) i l)
+low : (d : Start) (i : ℕ) → i < d .args .count → number d i ≤ i
+low d i l = omega (arith, d .pre .1 .1 i l, number-low (d .args .table .now) (d .args .count) i l)
 
 loop-holds : tie.Need-loop-holds Inv-loop μ-loop
-loop-holds c = let d = c .before in (omega arith, gathered-start (d .args .table .now) (d .args .n) (d .pre .1 .0))
+loop-holds c = let d = c .before in (omega arith, gathered-start (d .args .table .now) (d .args .count) (d .pre .1 .0))
 
 row-of-requires : tie.Need-row-of-requires Inv-loop μ-loop
 row-of-requires c κs =
@@ -78,9 +78,9 @@ loop-again c =
     let i = l .loop .i in
     let w = c .before .before .before .before .before .before .loop-test .taken in (
       omega (arith, w),
-      subst (λ (u : List ℤ). Gathered (d .args .table .now) u (d .args .n) (i + 1))
+      subst (λ (u : List ℤ). Gathered (d .args .table .now) u (d .args .count) (i + 1))
           (sym (c .before .put-row .ensures ∙ ap (putRow (l .loop .table) (number d i)) (c .before .before .before .before .row-of .ensures)))
-          (gathered-more (d .args .table .now) (l .loop .table) (d .args .n) i (number d i) (l .loop .inv .1) w (d .pre .0 .1) (d .pre .1 .1 i w)),
+          (gathered-more (d .args .table .now) (l .loop .table) (d .args .count) i (number d i) (l .loop .inv .1) w (d .pre .0 .1) (d .pre .1 .1 i w)),
     )
 
 same-length : tie.Need-same-length Inv-loop μ-loop
@@ -90,8 +90,8 @@ returns : tie.Need-returns Inv-loop μ-loop
 returns c =
     let l = c .before in
     let d = l .before .before in
-    let e : l .loop .i ≡ d .args .n = omega arith in
-    let G = subst (Gathered (d .args .table .now) (l .loop .table) (d .args .n)) e (l .loop .inv .1) in
+    let e : l .loop .i ≡ d .args .count = omega arith in
+    let G = subst (Gathered (d .args .table .now) (l .loop .table) (d .args .count)) e (l .loop .inv .1) in
     (G .front, (G .size, G .within))
 
 pub gather-spec : {M : Type 1} → statement M
