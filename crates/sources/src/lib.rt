@@ -66,12 +66,13 @@ pub fn vector_at(key: i64, n: usize) -> [i64; LoopNest::MAX_DEPTH]
     v
 }
 
-// The keys of a row of n points, of which the first is given, into a table from place `at` on.
-fn row_into(keys: &mut [i64], at: usize, first: i64, n: usize)
-    requires { ⌜ (at + n ≤ length (now keys)) × (natAbs first ≤ maxKey) × (n ≤ maxIterations) ⌝ }
-    ensures { λ _. ⌜ now (keys .exit) ≡ sets (now (keys .entry)) at (tab (λ q. first +ℤ pos q) n) ⌝ }
+// The keys of a row of so many points, of which the first is given, into a table from place `at`
+// on.
+fn row_into(keys: &mut [i64], at: usize, first: i64, count: usize)
+    requires { ⌜ (at + count ≤ length (now keys)) × (natAbs first ≤ maxKey) × (count ≤ maxIterations) ⌝ }
+    ensures { λ _. ⌜ now (keys .exit) ≡ sets (now (keys .entry)) at (tab (λ q. first +ℤ pos q) count) ⌝ }
 {
-    for q in 0..n {
+    for q in 0..count {
         keys[at + q] = first + q as i64;
     }
 }
