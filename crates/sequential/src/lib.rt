@@ -18,35 +18,36 @@ ghost use Rattle.sequential.specs.Sequential.{valueOf, loop, ruleOf, Fil
 // Values are below it.
 const MODULUS: usize = 65536;
 
-// Entry j of the first n of a table; the boundary value where j is none of them.
-fn entry_or(values: &[u16], n: usize, j: usize, boundary: u16) -> u16
-    requires { ⌜ n ≤ length (now values) ⌝ }
-    ensures { λ r. ⌜ r ≡ getD (take n (now (values .entry))) j boundary ⌝ }
+// Entry j of a table, where j is one of so many iterations; the boundary value where it is none.
+fn entry_or(values: &[u16], iterations: usize, j: usize, boundary: u16) -> u16
+    requires { ⌜ iterations ≤ length (now values) ⌝ }
+    ensures { λ r. ⌜ r ≡ getD (take iterations (now (values .entry))) j boundary ⌝ }
 {
-    if j < n { values[j] } else { boundary }
+    if j < iterations { values[j] } else { boundary }
 }
 
-// A weight times entry j of the first n of a table; the boundary value stands for an
-// entry that is none of them.
-fn weighted(values: &[u16], n: usize, j: usize, boundary: u16, weight: usize) -> usize
-    requires { ⌜ (n ≤ length (now values)) × (weight ≤ maxWeight) ⌝ }
-    ensures { λ r. ⌜ (r ≡ weight * getD (take n (now (values .entry))) j boundary) × (r ≤ maxWeight * maxBoundary) ⌝ }
+// A weight times entry j of a table, where j is one of so many iterations; times the boundary value
+// where it is none.
+fn weighted(values: &[u16], iterations: usize, j: usize, boundary: u16, weight: usize) -> usize
+    requires { ⌜ (iterations ≤ length (now values)) × (weight ≤ maxWeight) ⌝ }
+    ensures { λ r. ⌜ (r ≡ weight * getD (take iterations (now (values .entry))) j boundary)
+        × (r ≤ maxWeight * maxBoundary) ⌝ }
 {
-    weight * entry_or(values, n, j, boundary) as usize
+    weight * entry_or(values, iterations, j, boundary) as usize
 }
 
-// The weight of dependence i times the value that is read along it at an index point, where the n
+// The weight of dependence i times the value that is read along it at an index point, where the
 // iterations have these values.
 fn weighted_source(
     s: LoopNest,
-    n: usize,
+    iterations: usize,
     values: &[u16],
     point: [i64; LoopNest::MAX_DEPTH],
     i: usize,
 ) -> usize
     requires { ⌜ (refusal s ≡ 0) × (isPoint (pointsOf s) (part point 0 (depthOf s)) ≡ true) × (i < countOf s)
-        × (n ≤ length (now values)) ⌝ }
-    ensures { λ r. ⌜ r ≡ toℕ (getD (s .weights) i (pos 0)) * getD (take n (now (values .entry)))
+        × (iterations ≤ length (now values)) ⌝ }
+    ensures { λ r. ⌜ r ≡ toℕ (getD (s .weights) i (pos 0)) * getD (take iterations (now (values .entry)))
         (rank (pointsOf s) (source (part point 0 (depthOf s)) (dependence s i))) (toℕ (s .boundary)) ⌝ }
     ensures { λ r. ⌜ r ≤ maxWeight * maxBoundary ⌝ }
 {
@@ -54,37 +55,38 @@ fn weighted_source(
     let boundary = nest::to_size(s.boundary) as u16;
     let weights = s.weights;
     let weight = nest::to_size(weights[i]);
-    weighted(values, n, j, boundary, weight)
+    weighted(values, iterations, j, boundary, weight)
 }
 
-// The value of iteration k of an accepted nest, whose index point is given, where the n iterations
+// The value of iteration k of an accepted nest, whose index point is given, where the iterations
 // have these values: the weighted sum of its source values.
 fn value_from(
     s: LoopNest,
-    n: usize,
+    iterations: usize,
     values: &[u16],
     point: [i64; LoopNest::MAX_DEPTH],
     k: usize,
 ) -> u16
-    requires { ⌜ (refusal s ≡ 0) × (n ≡ length (pointsOf s)) × (k < n) × (n ≤ length (now values))
-        × (point ≡ padded maxDepth (getD (pointsOf s) k [])) ⌝ }
+    requires { ⌜ (refusal s ≡ 0) × (iterations ≡ length (pointsOf s)) × (k < iterations)
+        × (iterations ≤ length (now values)) × (point ≡ padded maxDepth (getD (pointsOf s) k [])) ⌝ }
     ensures { λ r. ⌜ r ≡ valueOf (ruleOf s) s (now (values .entry)) k ⌝ }
 {
     let m = nest::to_size(s.count);
     let mut sum = k;
     for i in 0..m {
-        sum = sum + weighted_source(s, n, values, point, i);
+        sum = sum + weighted_source(s, iterations, values, point, i);
     }
     (sum % MODULUS) as u16
 }
 
-// The value of iteration k of an accepted nest, where the n iterations have these values.
-pub fn value_at(s: LoopNest, n: usize, values: &[u16], k: usize) -> u16
-    requires { ⌜ (refusal s ≡ 0) × (n ≡ length (pointsOf s)) × (k < n) × (n ≤ length (now values)) ⌝ }
+// The value of iteration k of an accepted nest, where the iterations have these values.
+pub fn value_at(s: LoopNest, iterations: usize, values: &[u16], k: usize) -> u16
+    requires { ⌜ (refusal s ≡ 0) × (iterations ≡ length (pointsOf s)) × (k < iterations)
+        × (iterations ≤ length (now values)) ⌝ }
     ensures { λ r. ⌜ r ≡ valueOf (ruleOf s) s (now (values .entry)) k ⌝ }
 {
     let point = nest::point_of(s, k);
-    value_from(s, n, values, point, k)
+    value_from(s, iterations, values, point, k)
 }
 
 // The weights of the dependences of an accepted nest, as sizes.
@@ -122,11 +124,11 @@ fn next_value(
         (now (values .entry)) k m ⌝ }
     ensures { λ r. ⌜ Behind (now (keys .entry)) (now (distances .entry)) k m (now (cursors .exit)) ⌝ }
 {
-    let n = keys.len();
+    let iterations = keys.len();
     let mut total = k;
     for i in 0..m {
         let j = sources::next_source(keys, k, distances, i, cursors);
-        total = total + weighted(values, n, j, boundary, weights[i]);
+        total = total + weighted(values, iterations, j, boundary, weights[i]);
     }
     (total % MODULUS) as u16
 }
@@ -138,13 +140,13 @@ pub fn fill_by_keys(s: LoopNest, keys: &[i64], values: &mut [u16])
     ensures { λ _. ⌜ now (values .exit)
         ≡ loop (ruleOf s) s (length (pointsOf s)) ++ drop (length (pointsOf s)) (now (values .entry)) ⌝ }
 {
-    let n = keys.len();
+    let iterations = keys.len();
     let m = nest::to_size(s.count);
     let distances = sources::distances_of(s);
     let weights = weights_of(s);
     let boundary = nest::to_size(s.boundary) as u16;
     let mut cursors = [0usize; LoopNest::MAX_DEPENDENCES];
-    for k in 0..n {
+    for k in 0..iterations {
         values[k] = next_value(
             keys,
             k,
@@ -158,14 +160,14 @@ pub fn fill_by_keys(s: LoopNest, keys: &[i64], values: &mut [u16])
     }
 }
 
-// The values of the n iterations of an accepted nest, in loop order.
-fn fill_values(s: LoopNest, n: usize, values: &mut [u16])
-    requires { ⌜ (refusal s ≡ 0) × (n ≡ length (pointsOf s)) × (n ≤ length (now values)) ⌝ }
-    ensures { λ _. ⌜ now (values .exit) ≡ loop (ruleOf s) s n ++ drop n (now (values .entry)) ⌝ }
+// The values of the iterations of an accepted nest, in loop order.
+fn fill_values(s: LoopNest, iterations: usize, values: &mut [u16])
+    requires { ⌜ (refusal s ≡ 0) × (iterations ≡ length (pointsOf s)) × (iterations ≤ length (now values)) ⌝ }
+    ensures { λ _. ⌜ now (values .exit) ≡ loop (ruleOf s) s iterations ++ drop iterations (now (values .entry)) ⌝ }
 {
     let mut keys = [0i64; LoopNest::MAX_ITERATIONS];
     sources::keys_into(s, &mut keys);
-    fill_by_keys(s, &keys[..n], values);
+    fill_by_keys(s, &keys[..iterations], values);
 }
 
 // The values of the sequential loop into a lent table, which has an entry for each iteration;
@@ -175,13 +177,13 @@ pub fn fill(s: LoopNest, values: &mut [u16]) -> u8
 {
     let known = nest::inspect(s);
     let refusal = known.refusal;
-    let n = known.iterations;
+    let iterations = known.iterations;
     if refusal != 0 {
         return refusal;
     }
-    if values.len() < n {
+    if values.len() < iterations {
         return SHORT_BUFFER;
     }
-    fill_values(s, n, values);
+    fill_values(s, iterations, values);
     0
 }

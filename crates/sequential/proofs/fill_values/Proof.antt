@@ -12,8 +12,8 @@ use Rattle.sequential.proofs.fill_values.Statement.{statement}
 use Rattle.sequential.proofs.fill_values.Tie as tie
 
 -- the front of the table of keys
-front : (c : tie.After-keys-into) → (c .before .before .before .args .n ≤ length (c .keys-into .last .1 .0)) × (take (c .before .before .before .args .n) (c .keys-into .last .1 .0) ≡ keysOf (c .before .before .before .args .s))
-front c = let d = c .before .before .before in keys-front (d .args .s) (d .pre .0) (c .keys-into .last .1 .0) _ (d .args .n) (c .keys-into .ensures) (d .pre .1)
+front : (c : tie.After-keys-into) → (c .before .before .before .args .iterations ≤ length (c .keys-into .last .1 .0)) × (take (c .before .before .before .args .iterations) (c .keys-into .last .1 .0) ≡ keysOf (c .before .before .before .args .s))
+front c = let d = c .before .before .before in keys-front (d .args .s) (d .pre .0) (c .keys-into .last .1 .0) _ (d .args .iterations) (c .keys-into .ensures) (d .pre .1)
 
 slice-aggregate-keys-into : tie.Need-slice-aggregate-keys-into
 slice-aggregate-keys-into c = search needs
@@ -27,7 +27,7 @@ array-share-prefix-keys c = front (c .before) .0
 slice-aggregate-fill-by-keys : tie.Need-slice-aggregate-fill-by-keys
 slice-aggregate-fill-by-keys c =
     let k = c .before .before in
-    let l = length-take (k .before .before .before .args .n) (k .keys-into .last .1 .0) in
+    let l = length-take (k .before .before .before .args .iterations) (k .keys-into .last .1 .0) in
     omega (arith, l, front k .0)
 
 fill-by-keys-requires : tie.Need-fill-by-keys-requires
