@@ -25,14 +25,15 @@ fn unset(flag: u8) -> usize
     if flag == 0 { 1 } else { 0 }
 }
 
-// How many different processors n iterations are on.
-pub fn processor_count(processors: &[u8], n: usize) -> usize
-    requires { ⌜ (n ≤ length (now processors)) × ((k : ℕ) → k < n → getD (now processors) k 0 < 2 ^ maxCube) ⌝ }
-    ensures { λ r. ⌜ r ≡ length (firsts eqb (take n (now (processors .entry)))) ⌝ }
+// How many different processors so many iterations are on.
+pub fn processor_count(processors: &[u8], iterations: usize) -> usize
+    requires { ⌜ (iterations ≤ length (now processors))
+        × ((k : ℕ) → k < iterations → getD (now processors) k 0 < 2 ^ maxCube) ⌝ }
+    ensures { λ r. ⌜ r ≡ length (firsts eqb (take iterations (now (processors .entry)))) ⌝ }
 {
     let mut seen = [0u8; MAX_PROCESSORS];
     let mut number = 0;
-    for k in 0..n {
+    for k in 0..iterations {
         let p = processors[k] as usize;
         number = number + unset(seen[p]);
         seen[p] = 1;
@@ -40,13 +41,13 @@ pub fn processor_count(processors: &[u8], n: usize) -> usize
     number
 }
 
-// 1 if iteration j is one of n and on another processor than iteration k, 0 otherwise.
-fn is_elsewhere(processors: &[u8], n: usize, k: usize, j: usize) -> usize
-    requires { ⌜ (k < n) × (n ≤ length (now processors)) ⌝ }
+// 1 if j is one of so many iterations and on another processor than iteration k, 0 otherwise.
+fn is_elsewhere(processors: &[u8], iterations: usize, k: usize, j: usize) -> usize
+    requires { ⌜ (k < iterations) × (iterations ≤ length (now processors)) ⌝ }
     ensures { λ r. ⌜ r ≡ oneIf
-        (ltb j n && not (eqb (getD (now (processors .entry)) j 0) (getD (now (processors .entry)) k 0))) ⌝ }
+        (ltb j iterations && not (eqb (getD (now (processors .entry)) j 0) (getD (now (processors .entry)) k 0))) ⌝ }
 {
-    if n <= j {
+    if iterations <= j {
         return 0;
     }
     if processors[j] == processors[k] { 0 } else { 1 }
@@ -68,11 +69,11 @@ fn next_messages(
     ensures { λ r. ⌜ r ≡ messagesIn (now (keys .entry)) (now (distances .entry)) (now (processors .entry)) k m ⌝ }
     ensures { λ r. ⌜ Behind (now (keys .entry)) (now (distances .entry)) k m (now (cursors .exit)) ⌝ }
 {
-    let n = keys.len();
+    let iterations = keys.len();
     let mut number = 0;
     for i in 0..m {
         let j = sources::next_source(keys, k, distances, i, cursors);
-        number = number + is_elsewhere(processors, n, k, j);
+        number = number + is_elsewhere(processors, iterations, k, j);
     }
     number
 }
@@ -85,12 +86,12 @@ pub fn message_count(s: LoopNest, keys: &[i64], processors: &[u8]) -> usize
         (tab (λ k. count (isMessage s (take (length (pointsOf s)) (now (processors .entry))) k)
         (tab (λ i. i) (countOf s))) (length (pointsOf s))) ⌝ }
 {
-    let n = keys.len();
+    let iterations = keys.len();
     let m = nest::to_size(s.count);
     let distances = sources::distances_of(s);
     let mut cursors = [0usize; LoopNest::MAX_DEPENDENCES];
     let mut number = 0;
-    for k in 0..n {
+    for k in 0..iterations {
         number = number + next_messages(keys, k, m, &distances, processors, &mut cursors);
     }
     number

@@ -16,15 +16,15 @@ struct Reach {
     width: u64,
 }
 
-// The direction whose values are the numbers j of n rows.
-fn reach_in(rows: &[i64], j: usize, n: usize) -> Reach
-    requires { ⌜ (1 ≤ n) × (n ≤ maxIterations) × (j < maxDepth) × HasRows (now rows) n ⌝ }
-    ensures { λ r. ⌜ (r .least ≡ spanOf (column (now (rows .entry)) j n) .least)
-        × (r .width ≡ spanOf (column (now (rows .entry)) j n) .width) ⌝ }
+// The direction whose values are the numbers j of so many rows.
+fn reach_in(rows: &[i64], j: usize, count: usize) -> Reach
+    requires { ⌜ (1 ≤ count) × (count ≤ maxIterations) × (j < maxDepth) × HasRows (now rows) count ⌝ }
+    ensures { λ r. ⌜ (r .least ≡ spanOf (column (now (rows .entry)) j count) .least)
+        × (r .width ≡ spanOf (column (now (rows .entry)) j count) .width) ⌝ }
 {
     let mut least = rows[j];
     let mut greatest = least;
-    for k in 1..n {
+    for k in 1..count {
         let value = rows[k * ROW + j];
         least = integers::lesser(least, value);
         greatest = integers::larger(greatest, value);
@@ -49,16 +49,16 @@ pub fn column_of(j: usize) -> usize
     next_turn(j)
 }
 
-// The directions of n rows.
-pub fn spans_in(rows: &[i64], n: usize) -> Spans
-    requires { ⌜ (1 ≤ n) × (n ≤ maxIterations) × HasRows (now rows) n ⌝ }
-    ensures { λ r. ⌜ held (r .least) (r .width) noBits ≡ directionsIn (now (rows .entry)) n ⌝ }
+// The directions of so many rows.
+pub fn spans_in(rows: &[i64], count: usize) -> Spans
+    requires { ⌜ (1 ≤ count) × (count ≤ maxIterations) × HasRows (now rows) count ⌝ }
+    ensures { λ r. ⌜ held (r .least) (r .width) noBits ≡ directionsIn (now (rows .entry)) count ⌝ }
 {
     let mut least = [0i64; LoopNest::MAX_DEPTH];
     let mut width = [0u64; LoopNest::MAX_DEPTH];
     for j in 0..LoopNest::MAX_DEPTH {
         let at = column_of(j);
-        let reach = reach_in(rows, at, n);
+        let reach = reach_in(rows, at, count);
         let low = reach.least;
         least[j] = low;
         width[j] = reach.width;

@@ -56,73 +56,74 @@ fn processor_of(
     p as u8
 }
 
-// The processor of each of n rows, in directions that hold all of them.
+// The processor of each of so many rows, in directions that hold all of them.
 fn fill_processors(
     rows: &[i64],
-    n: usize,
+    count: usize,
     least: [i64; LoopNest::MAX_DEPTH],
     width: [u64; LoopNest::MAX_DEPTH],
     bits: [u64; LoopNest::MAX_DEPTH],
     processors: &mut [u8],
 )
-    requires { ⌜ (n ≤ maxIterations) × HasRows (now rows) n × (bitsOf (held least width bits) ≤ maxCube)
-        × (n ≤ length (now processors)) ⌝ }
+    requires { ⌜ (count ≤ maxIterations) × HasRows (now rows) count × (bitsOf (held least width bits) ≤ maxCube)
+        × (count ≤ length (now processors)) ⌝ }
     requires { ⌜ ((j : ℕ) → j < maxDepth → natAbs (getD least j (pos 0)) ≤ maxNumber)
-        × ((k : ℕ) → k < n → Fits (held least width bits) (valuesIn (now rows) k)) ⌝ }
+        × ((k : ℕ) → k < count → Fits (held least width bits) (valuesIn (now rows) k)) ⌝ }
     ensures { λ _. ⌜ now (processors .exit)
-        ≡ tab (λ k. joined 0 (held least width bits) (valuesIn (now (rows .entry)) k)) n
-        ++ drop n (now (processors .entry)) ⌝ }
+        ≡ tab (λ k. joined 0 (held least width bits) (valuesIn (now (rows .entry)) k)) count
+        ++ drop count (now (processors .entry)) ⌝ }
 {
-    for k in 0..n {
+    for k in 0..count {
         processors[k] = processor_of(rows, k, least, width, bits);
     }
 }
 
-// The processors of n blocks whose groups stand in `rows`, in a hypercube of dimension c.
-fn block_processors(rows: &[i64], n: usize, c: usize, processors: &mut [u8])
-    requires { ⌜ (1 ≤ n) × (n ≤ maxIterations) × (c ≤ maxCube) × HasRows (now rows) n
-        × (n ≤ length (now processors)) ⌝ }
+// The processors of so many blocks whose groups stand in `rows`, in a hypercube of dimension c.
+fn block_processors(rows: &[i64], count: usize, c: usize, processors: &mut [u8])
+    requires { ⌜ (1 ≤ count) × (count ≤ maxIterations) × (c ≤ maxCube) × HasRows (now rows) count
+        × (count ≤ length (now processors)) ⌝ }
     ensures { λ _. ⌜ now (processors .exit)
-        ≡ processorsIn (now (rows .entry)) n c ++ drop n (now (processors .entry)) ⌝ }
+        ≡ processorsIn (now (rows .entry)) count c ++ drop count (now (processors .entry)) ⌝ }
 {
-    let spans = spans_in(rows, n);
+    let spans = spans_in(rows, count);
     let least = spans.least;
     let width = spans.width;
     let bits = deal(width, c);
-    fill_processors(rows, n, least, width, bits, processors);
+    fill_processors(rows, count, least, width, bits, processors);
 }
 
-// The processor of each of n iterations: that of its block.
-fn place_iterations(owners: &[u8], blocks: &[u16], n: usize, processors: &mut [u8])
-    requires { ⌜ (n ≤ length (now blocks)) × (n ≤ length (now processors)) × (length (now owners) ≤ maxIterations)
-        × ((k : ℕ) → k < n → getD (now blocks) k 0 < length (now owners)) ⌝ }
+// The processor of each of so many iterations: that of its block.
+fn place_iterations(owners: &[u8], blocks: &[u16], iterations: usize, processors: &mut [u8])
+    requires { ⌜ (iterations ≤ length (now blocks)) × (iterations ≤ length (now processors))
+        × (length (now owners) ≤ maxIterations)
+        × ((k : ℕ) → k < iterations → getD (now blocks) k 0 < length (now owners)) ⌝ }
     ensures { λ _. ⌜ now (processors .exit)
-        ≡ tab (λ k. getD (now (owners .entry)) (getD (now (blocks .entry)) k 0) 0) n
-        ++ drop n (now (processors .entry)) ⌝ }
+        ≡ tab (λ k. getD (now (owners .entry)) (getD (now (blocks .entry)) k 0) 0) iterations
+        ++ drop iterations (now (processors .entry)) ⌝ }
 {
-    for k in 0..n {
+    for k in 0..iterations {
         processors[k] = owners[blocks[k] as usize];
     }
 }
 
-// The processors of n iterations, whose blocks are given, in a hypercube of dimension c. Row b of
+// The processors of the iterations, whose blocks are given, in a hypercube of dimension c. Row b of
 // `rows` has the group of block b, of so many blocks.
 pub fn processors_into(
     rows: &[i64],
     count: usize,
     c: usize,
     blocks: &[u16],
-    n: usize,
+    iterations: usize,
     processors: &mut [u8],
 )
     requires { ⌜ (1 ≤ count) × (count ≤ maxIterations) × (c ≤ maxCube) × HasRows (now rows) count ⌝ }
-    requires { ⌜ (n ≤ length (now blocks)) × (n ≤ length (now processors))
-        × ((k : ℕ) → k < n → getD (now blocks) k 0 < count) ⌝ }
+    requires { ⌜ (iterations ≤ length (now blocks)) × (iterations ≤ length (now processors))
+        × ((k : ℕ) → k < iterations → getD (now blocks) k 0 < count) ⌝ }
     ensures { λ _. ⌜ now (processors .exit)
-        ≡ tab (λ k. getD (processorsIn (now (rows .entry)) count c) (getD (now (blocks .entry)) k 0) 0) n
-        ++ drop n (now (processors .entry)) ⌝ }
+        ≡ tab (λ k. getD (processorsIn (now (rows .entry)) count c) (getD (now (blocks .entry)) k 0) 0) iterations
+        ++ drop iterations (now (processors .entry)) ⌝ }
 {
     let mut owners = [0u8; LoopNest::MAX_ITERATIONS];
     block_processors(rows, count, c, &mut owners);
-    place_iterations(&owners, blocks, n, processors);
+    place_iterations(&owners, blocks, iterations, processors);
 }

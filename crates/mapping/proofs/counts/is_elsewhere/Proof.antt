@@ -27,7 +27,7 @@ elsewhere j n x y h e = rw (oneIf, lt-ltb j n h, ne-eqb x y e) refl
 returns : tie.Need-returns
 returns c =
     let a = c .before .args in
-    beyond (a .j) (a .n) (getD (a .processors .now) (a .j) 0) (getD (a .processors .now) (a .k) 0) (omega (arith, c .if1 .taken))
+    beyond (a .j) (a .iterations) (getD (a .processors .now) (a .j) 0) (getD (a .processors .now) (a .k) 0) (omega (arith, c .if1 .taken))
 
 shared-slice-read-if2 : tie.Need-shared-slice-read-if2
 shared-slice-read-if2 c = search needs
@@ -38,12 +38,12 @@ shared-slice-read-if2-2 c = search needs
 returns-2 : tie.Need-returns-2
 returns-2 c =
     let a = c .before .before .before .before .args in
-    same (a .j) (a .n) (getD (a .processors .now) (a .j) 0) (getD (a .processors .now) (a .k) 0) (omega arith) (c .if2 .taken)
+    same (a .j) (a .iterations) (getD (a .processors .now) (a .j) 0) (getD (a .processors .now) (a .k) 0) (omega arith) (c .if2 .taken)
 
 returns-3 : tie.Need-returns-3
 returns-3 c =
     let a = c .before .before .before .before .args in
-    elsewhere (a .j) (a .n) (getD (a .processors .now) (a .j) 0) (getD (a .processors .now) (a .k) 0) (omega arith) (c .if2 .left)
+    elsewhere (a .j) (a .iterations) (getD (a .processors .now) (a .j) 0) (getD (a .processors .now) (a .k) 0) (omega arith) (c .if2 .left)
 
 pub is-elsewhere-spec : {M : Type 1} → statement M
 is-elsewhere-spec =

@@ -81,7 +81,7 @@ returns : tie.Need-returns Inv-loop μ-loop
 returns c =
     let l = c .before .loop in
     let a = c .before .before .before .args in
-    let e : l .k ≡ a .n = omega (arith, l .inv .0, c .loop-test .left) in
+    let e : l .k ≡ a .iterations = omega (arith, l .inv .0, c .loop-test .left) in
     l .inv .1 .number-is ∙ ap (λ (k : ℕ). length (firsts eqb (take k (a .processors .now)))) e
 
 pub processor-count-spec : {M : Type 1} → statement M

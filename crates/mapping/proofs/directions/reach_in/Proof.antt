@@ -29,21 +29,21 @@ module _ (c : tie.After-loop Inv-loop μ-loop) where
   abbrev start : tie.Start Inv-loop μ-loop
   start = c .before .before .before
 
-  all-rows : c .before .loop .k ≡ start .args .n
+  all-rows : c .before .loop .k ≡ start .args .count
   all-rows = omega (arith, c .before .loop .inv .1, c .loop-test .left)
 
-  least-is : toZ w64 (c .before .loop .least) ≡ leastZ (column (start .args .rows .now) (start .args .j) (start .args .n))
+  least-is : toZ w64 (c .before .loop .least) ≡ leastZ (column (start .args .rows .now) (start .args .j) (start .args .count))
   unfolding column
   least-is = c .before .loop .inv .2 ∙ ap (λ k. leastZ (tab (numberAt (start .args .rows .now) (start .args .j)) k)) all-rows
 
-  greatest-is : toZ w64 (c .before .loop .greatest) ≡ greatestZ (column (start .args .rows .now) (start .args .j) (start .args .n))
+  greatest-is : toZ w64 (c .before .loop .greatest) ≡ greatestZ (column (start .args .rows .now) (start .args .j) (start .args .count))
   unfolding column
   greatest-is = c .before .loop .inv .3 ∙ ap (λ k. greatestZ (tab (numberAt (start .args .rows .now) (start .args .j)) k)) all-rows
 
 -- how far they are apart
 height-is : (c : tie.After-height Inv-loop μ-loop) → c .height .result
-    ≡ toℕ (greatestZ (column (start (c .before) .args .rows .now) (start (c .before) .args .j) (start (c .before) .args .n))
-    -ℤ leastZ (column (start (c .before) .args .rows .now) (start (c .before) .args .j) (start (c .before) .args .n)))
+    ≡ toℕ (greatestZ (column (start (c .before) .args .rows .now) (start (c .before) .args .j) (start (c .before) .args .count))
+    -ℤ leastZ (column (start (c .before) .args .rows .now) (start (c .before) .args .j) (start (c .before) .args .count)))
 height-is c = c .height .ensures ∙ ap₂ (λ (u l : ℤ). toℕ (u -ℤ l)) (greatest-is (c .before)) (least-is (c .before))
 
 mul-least : tie.Need-mul-least Inv-loop μ-loop
@@ -100,19 +100,19 @@ height-requires : tie.Need-height-requires Inv-loop μ-loop
 height-requires c κs =
     let d = start c in
     let rows = d .args .rows .now in
-    let n = d .args .n in
+    let n = d .args .count in
     let j = d .args .j in
     rw (least-is c, greatest-is c) (least-size rows n (d .pre .3) (d .pre .0) j (d .pre .2), greatest-size rows n (d .pre .3) (d .pre .0) j (d .pre .2), in-order rows n (d .pre .3) (d .pre .0) j)
 
 add-t18 : tie.Need-add-t18 Inv-loop μ-loop
 add-t18 c =
     let d = start (c .before) in
-    omega (arith, height-most (d .args .rows .now) (d .args .n) (d .pre .3) (d .pre .0) (d .args .j) (d .pre .2), height-is c)
+    omega (arith, height-most (d .args .rows .now) (d .args .count) (d .pre .3) (d .pre .0) (d .args .j) (d .pre .2), height-is c)
 
 returns : tie.Need-returns Inv-loop μ-loop
 returns c =
     let d = start (c .before) in
-    (unfold spanOf in least-is (c .before), ap (λ x. x + 1) (height-is c) ∙ width-is (d .args .rows .now) (d .args .n) (d .pre .3) (d .pre .0) (d .args .j))
+    (unfold spanOf in least-is (c .before), ap (λ x. x + 1) (height-is c) ∙ width-is (d .args .rows .now) (d .args .count) (d .pre .3) (d .pre .0) (d .args .j))
 
 pub reach-in-spec : {M : Type 1} → statement M
 reach-in-spec =

@@ -22,7 +22,7 @@ below : (c : tie.In-loop Inv-loop μ-loop) → c .before .loop .j < maxDepth
 below c = c .loop-test .taken
 
 loop-holds : tie.Need-loop-holds Inv-loop μ-loop
-loop-holds c = let a = c .args in spanning-start (a .rows .now) (a .n) _ _ refl refl
+loop-holds c = let a = c .args in spanning-start (a .rows .now) (a .count) _ _ refl refl
 
 column-of-requires : tie.Need-column-of-requires Inv-loop μ-loop
 column-of-requires c κs = below c
@@ -57,15 +57,15 @@ loop-again c =
     let a = d .before .before .args in
     let l = d .before .loop in
     let r = c .before .reach-in in
-    let e = ap (λ i. spanOf (column (a .rows .now) i (a .n))) (c .before .before .column-of .ensures) in
-    spanning-more (a .rows .now) (a .n) (l .least) (l .width) (l .j) _ (r .result .width) (below d) (l .inv)
+    let e = ap (λ i. spanOf (column (a .rows .now) i (a .count))) (c .before .before .column-of .ensures) in
+    spanning-more (a .rows .now) (a .count) (l .least) (l .width) (l .j) _ (r .result .width) (below d) (l .inv)
     (told (r .result .least) (c .struct-told .given .0 .1) ∙ r .ensures .0 ∙ ap (λ (s : Direction). s .least) e) (r .ensures .1 ∙ ap (λ (s : Direction). s .width) e)
 
 returns : tie.Need-returns Inv-loop μ-loop
 returns c =
     let a = c .before .before .args in
     let l = c .before .loop in
-    spanning-end (a .rows .now) (a .n) (l .least) (l .width) (l .j) (omega (arith, c .loop-test .left)) (l .inv)
+    spanning-end (a .rows .now) (a .count) (l .least) (l .width) (l .j) (omega (arith, c .loop-test .left)) (l .inv)
 
 pub spans-in-spec : {M : Type 1} → statement M
 spans-in-spec =

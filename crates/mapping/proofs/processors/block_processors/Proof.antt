@@ -26,10 +26,10 @@ fill-processors-requires c κs =
     let r = p .spans-in .result in
     let bits = c .before .deal .result in
     let dealing = c .before .deal .ensures (r .least) in (
-      (d .pre .1, d .pre .3, (let f = few-bits (r .least) (r .width) bits noBits (a .rows .now) (a .n) (a .c) (d .pre .3) (d .pre .0) (p .spans-in .ensures) dealing in omega (arith, f, d .pre .2)), d .pre .4),
+      (d .pre .1, d .pre .3, (let f = few-bits (r .least) (r .width) bits noBits (a .rows .now) (a .count) (a .c) (d .pre .3) (d .pre .0) (p .spans-in .ensures) dealing in omega (arith, f, d .pre .2)), d .pre .4),
       (
-        least-sizes (r .least) (r .width) bits noBits (a .rows .now) (a .n) (a .c) (d .pre .3) (d .pre .0) (p .spans-in .ensures) dealing,
-        all-fit (r .least) (r .width) bits noBits (a .rows .now) (a .n) (a .c) (d .pre .3) (d .pre .0) (p .spans-in .ensures) dealing,
+        least-sizes (r .least) (r .width) bits noBits (a .rows .now) (a .count) (a .c) (d .pre .3) (d .pre .0) (p .spans-in .ensures) dealing,
+        all-fit (r .least) (r .width) bits noBits (a .rows .now) (a .count) (a .c) (d .pre .3) (d .pre .0) (p .spans-in .ensures) dealing,
       ),
     )
 
@@ -44,8 +44,8 @@ returns c =
     let d = p .before .before in
     let a = d .args in
     let r = p .spans-in .result in
-    subst (λ (ds : List Direction). c .before .before .fill-processors .last .1 .1 .1 .1 .1 .0 ≡ tab (λ (k : ℕ). joined 0 ds (valuesIn (a .rows .now) k)) (a .n) ++ drop (a .n) (a .processors .now))
-    (dealt-are (r .least) (r .width) (e .deal .result) noBits (a .rows .now) (a .n) (a .c) (d .pre .3) (d .pre .0) (p .spans-in .ensures) (e .deal .ensures (r .least)))
+    subst (λ (ds : List Direction). c .before .before .fill-processors .last .1 .1 .1 .1 .1 .0 ≡ tab (λ (k : ℕ). joined 0 ds (valuesIn (a .rows .now) k)) (a .count) ++ drop (a .count) (a .processors .now))
+    (dealt-are (r .least) (r .width) (e .deal .result) noBits (a .rows .now) (a .count) (a .c) (d .pre .3) (d .pre .0) (p .spans-in .ensures) (e .deal .ensures (r .least)))
     (c .before .before .fill-processors .ensures)
 
 pub block-processors-spec : {M : Type 1} → statement M

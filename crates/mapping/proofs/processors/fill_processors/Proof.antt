@@ -36,7 +36,7 @@ processor-of-requires c κs =
     let d = c .before .before .before in
     let k = c .before .loop .k in
     let t = c .loop-test .taken in
-    ((omega (arith, t, d .pre .0 .0), fewer-rows (d .args .rows .now) (d .args .n) (k + 1) (omega (arith, t)) (d .pre .0 .1), d .pre .0 .2), (d .pre .1 .0, d .pre .1 .1 k t))
+    ((omega (arith, t, d .pre .0 .0), fewer-rows (d .args .rows .now) (d .args .count) (k + 1) (omega (arith, t)) (d .pre .0 .1), d .pre .0 .2), (d .pre .1 .0, d .pre .1 .1 k t))
 
 slice-write-processors : tie.Need-slice-write-processors Inv-loop μ-loop
 slice-write-processors c = omega (arith, long (c .before .before), c .before .loop-test .taken, c .before .before .before .before .pre .0 .3)
@@ -62,7 +62,7 @@ returns : tie.Need-returns Inv-loop μ-loop
 returns c =
     let l = c .before .loop in
     let a = c .before .before .before .args in
-    let e : l .k ≡ a .n = omega (arith, l .inv .0, c .loop-test .left) in
+    let e : l .k ≡ a .count = omega (arith, l .inv .0, c .loop-test .left) in
     l .inv .1 ∙ ap (filledTo (row (a .rows .now) (a .least) (a .width) (a .bits)) (a .processors .now)) e
 
 pub fill-processors-spec : {M : Type 1} → statement M

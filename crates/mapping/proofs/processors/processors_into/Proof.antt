@@ -47,8 +47,8 @@ returns c =
     let a = d .args in
     let ps = processorsIn (a .rows .now) (a .count) (a .c) in
     c .before .before .place-iterations .ensures
-    ∙ ap (λ (l : List ℕ). l ++ drop (a .n) (a .processors .now))
-    (tab-same (λ k. getD (b .block-processors .last .1 .1 .1 .0) (getD (a .blocks .now) k 0) 0) (λ k. getD ps (getD (a .blocks .now) k 0) 0) (a .n)
+    ∙ ap (λ (l : List ℕ). l ++ drop (a .iterations) (a .processors .now))
+    (tab-same (λ k. getD (b .block-processors .last .1 .1 .1 .0) (getD (a .blocks .now) k 0) 0) (λ k. getD ps (getD (a .blocks .now) k 0) 0) (a .iterations)
     (λ k l. ap (λ (o : List ℕ). getD o (getD (a .blocks .now) k 0) 0) (b .block-processors .ensures) ∙ getD-before 0 ps _ (getD (a .blocks .now) k 0) (omega (arith, d .pre .1 .2 k l, processors-long (a .rows .now) (a .count) (a .c)))))
 
 pub processors-into-spec : {M : Type 1} → statement M
