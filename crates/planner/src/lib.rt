@@ -60,34 +60,35 @@ fn place_blocks(s: LoopNest, keys: &[i64], blocks: &mut [u16], processors: &mut 
     count
 }
 
-// The plan of an accepted nest of n iterations, into four tables.
+// The plan of an accepted nest of so many iterations, into four tables.
 fn make(
     s: LoopNest,
-    n: usize,
+    iterations: usize,
     steps: &mut [u32],
     blocks: &mut [u16],
     processors: &mut [u8],
     values: &mut [u16],
 ) -> Planning
-    requires { ⌜ (refusal s ≡ 0) × (n ≡ length (pointsOf s)) × (n ≤ length (now steps)) × (n ≤ length (now blocks))
-        × (n ≤ length (now processors)) × (n ≤ length (now values)) ⌝ }
+    requires { ⌜ (refusal s ≡ 0) × (iterations ≡ length (pointsOf s)) × (iterations ≤ length (now steps))
+        × (iterations ≤ length (now blocks)) × (iterations ≤ length (now processors))
+        × (iterations ≤ length (now values)) ⌝ }
     ensures { λ r. ⌜ r ≡ planAnswer s 0 ⌝ }
-    ensures { λ r. ⌜ now (steps .exit) ≡ stepsOf s ++ drop n (now (steps .entry)) ⌝ }
-    ensures { λ r. ⌜ now (blocks .exit) ≡ blocksOf s ++ drop n (now (blocks .entry)) ⌝ }
-    ensures { λ r. ⌜ now (processors .exit) ≡ processorsOf s ++ drop n (now (processors .entry)) ⌝ }
-    ensures { λ r. ⌜ now (values .exit) ≡ valuesOf s ++ drop n (now (values .entry)) ⌝ }
+    ensures { λ r. ⌜ now (steps .exit) ≡ stepsOf s ++ drop iterations (now (steps .entry)) ⌝ }
+    ensures { λ r. ⌜ now (blocks .exit) ≡ blocksOf s ++ drop iterations (now (blocks .entry)) ⌝ }
+    ensures { λ r. ⌜ now (processors .exit) ≡ processorsOf s ++ drop iterations (now (processors .entry)) ⌝ }
+    ensures { λ r. ⌜ now (values .exit) ≡ valuesOf s ++ drop iterations (now (values .entry)) ⌝ }
 {
     let mut table = [0i64; LoopNest::MAX_ITERATIONS];
     sources::keys_into(s, &mut table);
-    let keys = &table[..n];
+    let keys = &table[..iterations];
     let step_count = partition::steps_into(s, keys, steps);
     let block_count = place_blocks(s, keys, blocks, processors);
-    let processor_count = mapping::processor_count(processors, n);
+    let processor_count = mapping::processor_count(processors, iterations);
     let message_count = mapping::message_count(s, keys, processors);
     sequential::fill_by_keys(s, keys, values);
     Planning {
         refusal: 0,
-        iterations: n,
+        iterations: iterations,
         steps: step_count,
         blocks: block_count,
         processors: processor_count,
@@ -110,20 +111,26 @@ pub fn plan(
 {
     let known = nest::inspect(s);
     let refusal = known.refusal;
-    let n = known.iterations;
+    let iterations = known.iterations;
     if refusal != 0 {
         return refused(refusal);
     }
-    let room = nest::check_room(n, steps.len(), blocks.len(), processors.len(), values.len());
+    let room = nest::check_room(
+        iterations,
+        steps.len(),
+        blocks.len(),
+        processors.len(),
+        values.len(),
+    );
     if room != 0 {
         return refused(room);
     }
-    make(s, n, steps, blocks, processors, values)
+    make(s, iterations, steps, blocks, processors, values)
 }
 
 // The lines of an accepted nest's plan into a lent buffer that has room for them.
-fn put_plan(s: LoopNest, n: usize, out: &mut [u8])
-    requires { ⌜ (refusal s ≡ 0) × (n ≡ length (pointsOf s)) × (31 * (n + 1) ≤ length (now out)) ⌝ }
+fn put_plan(s: LoopNest, iterations: usize, out: &mut [u8])
+    requires { ⌜ (refusal s ≡ 0) × (iterations ≡ length (pointsOf s)) × (31 * (iterations + 1) ≤ length (now out)) ⌝ }
     ensures { λ _. ⌜ now (out .exit) ≡ sets (now (out .entry)) 0 (planText s) ⌝ }
 {
     let mut steps = [0u32; LoopNest::MAX_ITERATIONS];
@@ -133,7 +140,7 @@ fn put_plan(s: LoopNest, n: usize, out: &mut [u8])
     let p = plan(s, &mut steps, &mut blocks, &mut processors, &mut values);
     let counts = [p.iterations, p.steps, p.blocks, p.processors, p.messages];
     let end = lines::put_counts(out, 0, counts);
-    lines::put_rows(out, end, n, &steps, &blocks, &processors, &values);
+    lines::put_rows(out, end, iterations, &steps, &blocks, &processors, &values);
 }
 
 // The plan of a loop nest as text, from the nest's text into a lent buffer; answers its length, or
@@ -150,15 +157,15 @@ pub fn list(text: &[u8], out: &mut [u8]) -> Writing
     }
     let s = reading.nest;
     let known = nest::inspect(s);
-    let n = known.iterations;
-    let length = lines::LINE * (n + 1);
+    let iterations = known.iterations;
+    let length = lines::LINE * (iterations + 1);
     if out.len() < length {
         return Writing {
             refusal: SHORT_BUFFER,
             length: 0,
         };
     }
-    put_plan(s, n, out);
+    put_plan(s, iterations, out);
     Writing {
         refusal: 0,
         length: length,

@@ -53,26 +53,26 @@ fn put_row(
     put_counts(out, at, counts)
 }
 
-// Writes a line for each of n iterations: rank, step, block, processor, value.
+// Writes a line for each of so many iterations: rank, step, block, processor, value.
 pub fn put_rows(
     out: &mut [u8],
     at: usize,
-    n: usize,
+    iterations: usize,
     steps: &[u32],
     blocks: &[u16],
     processors: &[u8],
     values: &[u16],
 ) -> usize
-    requires { ⌜ (at + 31 * n ≤ length (now out)) × (n ≤ maxIterations) ⌝ }
-    requires { ⌜ (n ≤ length (now steps)) × (n ≤ length (now blocks)) × (n ≤ length (now processors))
-        × (n ≤ length (now values)) ⌝ }
-    requires { ⌜ ((k : ℕ) → k < n → getD (now steps) k 0 < 1000000) ⌝ }
+    requires { ⌜ (at + 31 * iterations ≤ length (now out)) × (iterations ≤ maxIterations) ⌝ }
+    requires { ⌜ (iterations ≤ length (now steps)) × (iterations ≤ length (now blocks))
+        × (iterations ≤ length (now processors)) × (iterations ≤ length (now values)) ⌝ }
+    requires { ⌜ ((k : ℕ) → k < iterations → getD (now steps) k 0 < 1000000) ⌝ }
     ensures { λ r. ⌜ Stored (now (out .entry)) at
         (flatMap line (tab (rowOf (now (steps .entry)) (now (blocks .entry)) (now (processors .entry))
-        (now (values .entry))) n)) (now (out .exit)) r ⌝ }
+        (now (values .entry))) iterations)) (now (out .exit)) r ⌝ }
 {
     let mut end = at;
-    for k in 0..n {
+    for k in 0..iterations {
         end = put_row(out, end, k, steps[k], blocks[k], processors[k], values[k]);
     }
     end

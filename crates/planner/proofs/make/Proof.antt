@@ -30,8 +30,8 @@ abbrev at-blocks : tie.After-processor-count → tie.After-place-blocks
 at-blocks c = c .before .before .before .before .before .before
 
 -- the front of the table of keys
-front : (c : tie.After-keys-into) → (st c .args .n ≤ length (c .keys-into .last .1 .0)) × (take (st c .args .n) (c .keys-into .last .1 .0) ≡ keysOf (st c .args .s))
-front c = let d = st c in keys-front (d .args .s) (d .pre .0) (c .keys-into .last .1 .0) _ (d .args .n) (c .keys-into .ensures) (d .pre .1)
+front : (c : tie.After-keys-into) → (st c .args .iterations ≤ length (c .keys-into .last .1 .0)) × (take (st c .args .iterations) (c .keys-into .last .1 .0) ≡ keysOf (st c .args .s))
+front c = let d = st c in keys-front (d .args .s) (d .pre .0) (c .keys-into .last .1 .0) _ (d .args .iterations) (c .keys-into .ensures) (d .pre .1)
 
 slice-aggregate-keys-into : tie.Need-slice-aggregate-keys-into
 slice-aggregate-keys-into c = search needs
@@ -45,7 +45,7 @@ array-share-prefix-table c = front (c .before) .0
 slice-aggregate-keys : tie.Need-slice-aggregate-keys
 slice-aggregate-keys c =
     let k = c .before .before in
-    let l = length-take (st k .args .n) (k .keys-into .last .1 .0) in
+    let l = length-take (st k .args .iterations) (k .keys-into .last .1 .0) in
     omega (arith, l, front k .0)
 
 steps-into-requires : tie.Need-steps-into-requires
@@ -67,7 +67,7 @@ processor-count-requires c κs =
     let d = st (at-keys (at-steps t)) in
     let a = d .args in
     let old = drop (length (pointsOf (a .s))) (a .processors .now) in
-    (placed-room (a .s) old (a .n) (d .pre .1) (b .last .1 .1 .1 .0) (b .ensures .1 .1), placed-below (a .s) old (a .n) (d .pre .1) (b .last .1 .1 .1 .0) (b .ensures .1 .1) (d .pre .0))
+    (placed-room (a .s) old (a .iterations) (d .pre .1) (b .last .1 .1 .1 .0) (b .ensures .1 .1), placed-below (a .s) old (a .iterations) (d .pre .1) (b .last .1 .1 .1 .0) (b .ensures .1 .1) (d .pre .0))
 
 message-count-requires : tie.Need-message-count-requires
 message-count-requires c κs =
@@ -76,7 +76,7 @@ message-count-requires c κs =
     let k = at-keys (at-steps t) in
     let d = st k in
     let a = d .args in
-    (d .pre .0, front k .1, omega (arith, d .pre .1, placed-room (a .s) (drop (length (pointsOf (a .s))) (a .processors .now)) (a .n) (d .pre .1) (b .last .1 .1 .1 .0) (b .ensures .1 .1)))
+    (d .pre .0, front k .1, omega (arith, d .pre .1, placed-room (a .s) (drop (length (pointsOf (a .s))) (a .processors .now)) (a .iterations) (d .pre .1) (b .last .1 .1 .1 .0) (b .ensures .1 .1)))
 
 fill-by-keys-requires : tie.Need-fill-by-keys-requires
 fill-by-keys-requires c κs =
@@ -109,10 +109,10 @@ returns c =
     let s = a .s in
     let old = drop (length (pointsOf (a .s))) (a .processors .now) in
     let ps = b .last .1 .1 .1 .0 in (
-      answer-is s (a .n) (t .result) (b .result) (p .result) (m .result) (d .pre .1) (t .ensures .0) (b .ensures .0) (p .ensures ∙ placed-processors s old (a .n) (d .pre .1) ps (b .ensures .1 .1)) (m .ensures ∙ placed-messages s old (length (pointsOf s)) refl ps (b .ensures .1 .1)),
+      answer-is s (a .iterations) (t .result) (b .result) (p .result) (m .result) (d .pre .1) (t .ensures .0) (b .ensures .0) (p .ensures ∙ placed-processors s old (a .iterations) (d .pre .1) ps (b .ensures .1 .1)) (m .ensures ∙ placed-messages s old (length (pointsOf s)) refl ps (b .ensures .1 .1)),
       (
         t .ensures .1 ∙ ap (λ n. stepsOf s ++ drop n (a .steps .now)) (sym (d .pre .1)),
-        (b .ensures .1 .0 ∙ ap (λ n. blocksOf s ++ drop n (a .blocks .now)) (sym (d .pre .1)), (b .ensures .1 .1 ∙ ap (λ n. processorsOf s ++ drop n (a .processors .now)) (sym (d .pre .1)), f .ensures ∙ loop-values s (a .values .now) (a .n) (d .pre .1))),
+        (b .ensures .1 .0 ∙ ap (λ n. blocksOf s ++ drop n (a .blocks .now)) (sym (d .pre .1)), (b .ensures .1 .1 ∙ ap (λ n. processorsOf s ++ drop n (a .processors .now)) (sym (d .pre .1)), f .ensures ∙ loop-values s (a .values .now) (a .iterations) (d .pre .1))),
       ),
     )
 

@@ -18,11 +18,11 @@ start c = c .before .before .before .before .before .before
 abbrev empty : List ℕ
 empty = replicate 4096 0
 
-tables : (p : tie.After-plan) → (let l = p .plan .last in Tabled (start p .args .s) (start p .args .n) (p .plan .result) (l .1 .0) (l .1 .1 .0) (l .1 .1 .1 .0) (l .1 .1 .1 .1 .0))
+tables : (p : tie.After-plan) → (let l = p .plan .last in Tabled (start p .args .s) (start p .args .iterations) (p .plan .result) (l .1 .0) (l .1 .1 .0) (l .1 .1 .1 .0) (l .1 .1 .1 .1 .0))
 tables p =
     let d = start p in
     let l = p .plan .last in
-    tabled (d .args .s) (d .pre .0) (d .args .n) (d .pre .1) empty empty empty empty refl refl refl refl (p .plan .result) (l .1 .0) (l .1 .1 .0) (l .1 .1 .1 .0) (l .1 .1 .1 .1 .0) (p .plan .ensures)
+    tabled (d .args .s) (d .pre .0) (d .args .iterations) (d .pre .1) empty empty empty empty refl refl refl refl (p .plan .result) (l .1 .0) (l .1 .1 .0) (l .1 .1 .1 .0) (l .1 .1 .1 .1 .0) (p .plan .ensures)
 
 slice-aggregate-plan : tie.Need-slice-aggregate-plan
 slice-aggregate-plan c = search needs

@@ -74,7 +74,7 @@ returns : tie.Need-returns Inv-loop μ-loop
 returns c =
     let a = c .before .before .before .before .before .before .before .args in
     let l = c .before .loop in
-    let e : l .k ≡ a .n = omega arith in
+    let e : l .k ≡ a .iterations = omega arith in
     subst (λ (j : ℕ). Stored (a .out .now) (a .at) (flatMap line (tab (rowOf (a .steps .now) (a .blocks .now) (a .processors .now) (a .values .now)) j)) (l .out) (l .end)) e (l .inv .1 .1 .1)
 
 pub put-rows-spec : {M : Type 1} → statement M
