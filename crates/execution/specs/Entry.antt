@@ -32,10 +32,10 @@ stateIn values done delivered = record { values = values; done = done; delivered
 abbrev pub viewIn : List ℕ → List ℕ → List ℕ → List ℕ → View
 viewIn steps processors done delivered = stateView (layoutIn steps processors) (stateIn [] done delivered)
 
--- a rank, or n where there is none
+-- a rank, or the number of iterations where there is none
 abbrev pub rankOr : ℕ → Option ℕ → ℕ
-rankOr n none = n
-rankOr n (some k) = k
+rankOr iterations none = iterations
+rankOr iterations (some k) = k
 
 -- ---- requests and answers
 
@@ -60,10 +60,10 @@ answerOf s values (message k i) = Delivered (record { rank = k; dependence = i }
 
 -- ---- moves on an accepted nest, with an entry for each of its iterations in every buffer
 
--- each buffer has an entry for each of n iterations
+-- each buffer has an entry for each of so many iterations
 abbrev pub Room : ℕ → Layout → State ℕ → Type 0
-Room n L st = (n ≤ length (L .steps)) × (n ≤ length (L .processors)) × (n ≤ length (st .values))
-    × (n ≤ length (st .done)) × (n ≤ length (st .delivered))
+Room iterations L st = (iterations ≤ length (L .steps)) × (iterations ≤ length (L .processors))
+    × (iterations ≤ length (st .values)) × (iterations ≤ length (st .done)) × (iterations ≤ length (st .delivered))
 
 -- r is what the rules answer to a move
 abbrev pub Answers : LoopNest → Layout → State ℕ → Move → Answer → Type 0
@@ -82,11 +82,11 @@ Delivers s processors done delivered k i r delivered′ =
     × ((steps values : List ℕ)
     → Leaves s (layoutIn steps processors) (stateIn values done delivered) (deliver k i) (stateIn values done delivered′))
 
--- the same where the rank j of the source is known, which is n or more where there is none: the
--- message can be delivered
+-- the same where the rank j of the source is known, which is the number of iterations or more where
+-- there is none: the message can be delivered
 abbrev pub readyFrom : ℕ → ℕ → List ℕ → List ℕ → List ℕ → ℕ → ℕ → Bool
-readyFrom j n processors done delivered k i =
-    ltb j n && (not (eqb (getD processors j 0) (getD processors k 0))
+readyFrom j iterations processors done delivered k i =
+    ltb j iterations && (not (eqb (getD processors j 0) (getD processors k 0))
     && (not (eqb (getD done j 0) 0) && not (bit i (getD delivered k 0))))
 
 -- what is answered, and what is left

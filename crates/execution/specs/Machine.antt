@@ -80,9 +80,9 @@ layoutOf s = record { steps = stepsOf s; processors = processorsOf s }
 
 -- ---- counts
 
--- how many of the numbers below n pass a test
+-- how many of the numbers below k pass a test
 abbrev pub countBelow : (ℕ → Bool) → ℕ → ℕ
-countBelow t n = count t (tab (λ k. k) n)
+countBelow t k = count t (tab (λ i. i) k)
 
 -- how many iterations are computed
 abbrev pub computedCount : LoopNest → Machine → ℕ

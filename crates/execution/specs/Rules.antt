@@ -15,24 +15,24 @@ use Rattle.nest.specs.Points.{pointsOf}
 use Rattle.nest.specs.Sources.{sourceRank}
 use Rattle.mapping.specs.Mapping.{isMessage}
 
--- ---- tests of the numbers below n
+-- ---- tests of the numbers below k
 
 -- every one passes
 unfoldable pub every : (ℕ → Bool) → ℕ → Bool
 every t zero = true
-every t (suc n) = every t n && t n
+every t (suc k) = every t k && t k
 
--- the better of n and the best so far: n, if it passes and none does before it or its key is
+-- the better of k and the best so far: k, if it passes and none does before it or its key is
 -- less than that of the best
 unfoldable pub better : (ℕ → ℕ) → ℕ → Bool → Option ℕ → Option ℕ
-better key n false best = best
-better key n true none = some n
-better key n true (some b) = elim (ltb (key n) (key b)) [ true ↦ some n | false ↦ some b ]
+better key k false best = best
+better key k true none = some k
+better key k true (some b) = elim (ltb (key k) (key b)) [ true ↦ some k | false ↦ some b ]
 
 -- of those that pass, the one with the least key, and the first of several such
 unfoldable pub least : (ℕ → Bool) → (ℕ → ℕ) → ℕ → Option ℕ
 least test key zero = none
-least test key (suc n) = better key n (test n) (least test key n)
+least test key (suc k) = better key k (test k) (least test key k)
 
 -- ---- moves
 

@@ -48,8 +48,9 @@ withBit st k i = record {
 -- for a layout and a state of these lengths
 unfoldable pub moveRefusal : LoopNest → ℕ → ℕ → ℕ → ℕ → ℕ → ℕ
 moveRefusal s steps processors values done delivered =
-    let n = length (pointsOf s) in
-    orElse (refusal s) (orElse (noRoom n steps processors values done) (shortBuffer n delivered))
+    let iterations = length (pointsOf s) in
+    orElse (refusal s)
+    (orElse (noRoom iterations steps processors values done) (shortBuffer iterations delivered))
 
 -- for this layout and state
 abbrev pub stateRefusal : {Val : Type 0} → LoopNest → Layout → State Val → ℕ

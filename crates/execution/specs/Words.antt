@@ -92,9 +92,9 @@ ruleOrder s v (deliver k i) = (18, NoPlace s k i) ∷ (16, OutOfTurn s v k i) �
 -- one of the five buffers has fewer entries than there are iterations
 abbrev pub BufferShort : {Val : Type 0} → LoopNest → Layout → State Val → Type 0
 BufferShort s L st =
-    let n = length (pointsOf s) in
-    OneShort n (length (L .steps)) (length (L .processors)) (length (st .values)) (length (st .done))
-    ⊎ (length (st .delivered) < n)
+    let iterations = length (pointsOf s) in
+    OneShort iterations (length (L .steps)) (length (L .processors)) (length (st .values)) (length (st .done))
+    ⊎ (length (st .delivered) < iterations)
 
 -- all of them: 2 to 13, then 14, then those of the rules
 abbrev pub moveOrder : {Val : Type 0} → LoopNest → Layout → State Val → Move → Order

@@ -41,21 +41,22 @@ pub fn with_bit(byte: u8, i: usize) -> u8
     byte + power(i)
 }
 
-// The better of the best so far, which is n where there is none, and iteration k: k, if it is not
-// done and on processor p, and there is no best or k's step is less.
+// The better of the best so far, which is the number of iterations where there is none, and
+// iteration k: k, if it is not done and on processor p, and there is no best or k's step is less.
 fn better_of(
     steps: &[u32],
     processors: &[u8],
     done: &[u8],
-    n: usize,
+    iterations: usize,
     p: u8,
     k: usize,
     best: usize,
 ) -> usize
-    requires { ⌜ (k < n) × (best ≤ n) × (n ≤ length (now steps)) × (n ≤ length (now processors))
-        × (n ≤ length (now done)) ⌝ }
-    ensures { λ r. ⌜ ((o : Option ℕ) → best ≡ rankOr n o → ((j : ℕ) → o ≡ some j → j < n)
-        → r ≡ rankOr n (better (stepIn (viewIn (now (steps .entry)) (now (processors .entry)) (now (done .entry)) [])) k
+    requires { ⌜ (k < iterations) × (best ≤ iterations) × (iterations ≤ length (now steps))
+        × (iterations ≤ length (now processors)) × (iterations ≤ length (now done)) ⌝ }
+    ensures { λ r. ⌜ ((o : Option ℕ) → best ≡ rankOr iterations o → ((j : ℕ) → o ≡ some j → j < iterations)
+        → r ≡ rankOr iterations
+        (better (stepIn (viewIn (now (steps .entry)) (now (processors .entry)) (now (done .entry)) [])) k
         (waits (viewIn (now (steps .entry)) (now (processors .entry)) (now (done .entry)) []) p k) o)) ⌝ }
 {
     if processors[k] != p {
@@ -64,38 +65,46 @@ fn better_of(
     if done[k] != 0 {
         return best;
     }
-    if best == n {
+    if best == iterations {
         return k;
     }
     if steps[k] < steps[best] { k } else { best }
 }
 
-// The first iteration on processor p, of those from `from` up to n; n where there is none.
-fn next_on(processors: &[u8], n: usize, p: u8, from: usize) -> usize
-    requires { ⌜ (from ≤ n) × (n ≤ length (now processors)) ⌝ }
-    ensures { λ r. ⌜ r ≡ firstFrom (λ j. eqb (getD (now (processors .entry)) j 0) p) (n - from) from ⌝ }
+// The first iteration on processor p, of those from `from` on; the number of iterations where there
+// is none.
+fn next_on(processors: &[u8], iterations: usize, p: u8, from: usize) -> usize
+    requires { ⌜ (from ≤ iterations) × (iterations ≤ length (now processors)) ⌝ }
+    ensures { λ r. ⌜ r ≡ firstFrom (λ j. eqb (getD (now (processors .entry)) j 0) p) (iterations - from) from ⌝ }
 {
-    for j in from..n {
+    for j in from..iterations {
         if processors[j] == p {
             return j;
         }
     }
-    n
+    iterations
 }
 
-// The iteration that processor p takes, of n: the one that is not done, least in step, then in
-// rank; n where there is none.
-pub fn next_iteration(steps: &[u32], processors: &[u8], done: &[u8], n: usize, p: u8) -> usize
-    requires { ⌜ (n ≤ length (now steps)) × (n ≤ length (now processors)) × (n ≤ length (now done)) ⌝ }
-    ensures { λ r. ⌜ r ≡ rankOr n
+// The iteration that processor p takes: the one that is not done, least in step, then in rank; the
+// number of iterations where there is none.
+pub fn next_iteration(
+    steps: &[u32],
+    processors: &[u8],
+    done: &[u8],
+    iterations: usize,
+    p: u8,
+) -> usize
+    requires { ⌜ (iterations ≤ length (now steps)) × (iterations ≤ length (now processors))
+        × (iterations ≤ length (now done)) ⌝ }
+    ensures { λ r. ⌜ r ≡ rankOr iterations
         (least (waits (viewIn (now (steps .entry)) (now (processors .entry)) (now (done .entry)) []) p)
-        (stepIn (viewIn (now (steps .entry)) (now (processors .entry)) (now (done .entry)) [])) n) ⌝ }
+        (stepIn (viewIn (now (steps .entry)) (now (processors .entry)) (now (done .entry)) [])) iterations) ⌝ }
 {
-    let mut best = n;
-    let mut k = next_on(processors, n, p, 0);
-    while k < n {
-        best = better_of(steps, processors, done, n, p, k, best);
-        k = next_on(processors, n, p, k + 1);
+    let mut best = iterations;
+    let mut k = next_on(processors, iterations, p, 0);
+    while k < iterations {
+        best = better_of(steps, processors, done, iterations, p, k, best);
+        k = next_on(processors, iterations, p, k + 1);
     }
     best
 }
@@ -104,7 +113,7 @@ pub fn next_iteration(steps: &[u32], processors: &[u8], done: &[u8], n: usize, p
 // p: done if on p, its message delivered otherwise; one that is no iteration always is.
 fn source_there(
     s: LoopNest,
-    n: usize,
+    iterations: usize,
     processors: &[u8],
     done: &[u8],
     delivered: &[u8],
@@ -113,14 +122,15 @@ fn source_there(
     k: usize,
     i: usize,
 ) -> bool
-    requires { ⌜ (refusal s ≡ 0) × (n ≡ length (pointsOf s)) × (k < n)
+    requires { ⌜ (refusal s ≡ 0) × (iterations ≡ length (pointsOf s)) × (k < iterations)
         × (point ≡ padded maxDepth (getD (pointsOf s) k [])) × (i < countOf s) ⌝ }
-    requires { ⌜ (n ≤ length (now processors)) × (n ≤ length (now done)) × (n ≤ length (now delivered)) ⌝ }
+    requires { ⌜ (iterations ≤ length (now processors)) × (iterations ≤ length (now done))
+        × (iterations ≤ length (now delivered)) ⌝ }
     ensures { λ r. ⌜ r ≡ there (viewIn [] (now (processors .entry)) (now (done .entry)) (now (delivered .entry))) p k i
         (sourceRank s k i) ⌝ }
 {
     let j = nest::source_at(s, point, i);
-    if n <= j {
+    if iterations <= j {
         return true;
     }
     if processors[j] == p {
@@ -132,15 +142,16 @@ fn source_there(
 // Whether all sources of iteration k are there for processor p.
 pub fn all_there(
     s: LoopNest,
-    n: usize,
+    iterations: usize,
     processors: &[u8],
     done: &[u8],
     delivered: &[u8],
     p: u8,
     k: usize,
 ) -> bool
-    requires { ⌜ (refusal s ≡ 0) × (n ≡ length (pointsOf s)) × (k < n) ⌝ }
-    requires { ⌜ (n ≤ length (now processors)) × (n ≤ length (now done)) × (n ≤ length (now delivered)) ⌝ }
+    requires { ⌜ (refusal s ≡ 0) × (iterations ≡ length (pointsOf s)) × (k < iterations) ⌝ }
+    requires { ⌜ (iterations ≤ length (now processors)) × (iterations ≤ length (now done))
+        × (iterations ≤ length (now delivered)) ⌝ }
     ensures { λ r. ⌜ r ≡ every
         (λ i. there (viewIn [] (now (processors .entry)) (now (done .entry)) (now (delivered .entry))) p k i
         (sourceRank s k i)) (countOf s) ⌝ }
@@ -148,7 +159,7 @@ pub fn all_there(
     let point = nest::point_of(s, k);
     let m = nest::to_size(s.count);
     for i in 0..m {
-        if !source_there(s, n, processors, done, delivered, point, p, k, i) {
+        if !source_there(s, iterations, processors, done, delivered, point, p, k, i) {
             return false;
         }
     }
@@ -156,21 +167,23 @@ pub fn all_there(
 }
 
 // Whether the message of iteration k along dependence i, whose source has rank j or is none of the
-// n iterations, can be delivered: it is one, its source is done, and its bit is 0.
+// iterations, can be delivered: it is one, its source is done, and its bit is 0.
 pub fn is_ready(
     j: usize,
-    n: usize,
+    iterations: usize,
     processors: &[u8],
     done: &[u8],
     delivered: &[u8],
     k: usize,
     i: usize,
 ) -> bool
-    requires { ⌜ (k < n) × (i < maxDependences) ⌝ }
-    requires { ⌜ (n ≤ length (now processors)) × (n ≤ length (now done)) × (n ≤ length (now delivered)) ⌝ }
-    ensures { λ r. ⌜ r ≡ readyFrom j n (now (processors .entry)) (now (done .entry)) (now (delivered .entry)) k i ⌝ }
+    requires { ⌜ (k < iterations) × (i < maxDependences) ⌝ }
+    requires { ⌜ (iterations ≤ length (now processors)) × (iterations ≤ length (now done))
+        × (iterations ≤ length (now delivered)) ⌝ }
+    ensures { λ r. ⌜ r ≡ readyFrom j iterations
+        (now (processors .entry)) (now (done .entry)) (now (delivered .entry)) k i ⌝ }
 {
-    if n <= j {
+    if iterations <= j {
         return false;
     }
     if processors[j] == processors[k] {

@@ -66,27 +66,31 @@ fn processors_in(s: LoopNest) -> usize
 
 // 14 if one of the five buffers of a move has fewer entries than there are iterations, 0 otherwise.
 pub fn check_buffers(
-    n: usize,
+    iterations: usize,
     steps: usize,
     processors: usize,
     values: usize,
     done: usize,
     delivered: usize,
 ) -> u8
-    ensures { λ r. ⌜ r ≡ orElse (noRoom n steps processors values done) (shortBuffer n delivered) ⌝ }
+    ensures { λ r. ⌜ r ≡ orElse (noRoom iterations steps processors values done) (shortBuffer iterations delivered) ⌝ }
 {
-    let room = nest::check_room(n, steps, processors, values, done);
+    let room = nest::check_room(iterations, steps, processors, values, done);
     if room != 0 {
         return room;
     }
-    if delivered < n { SHORT_BUFFER } else { 0 }
+    if delivered < iterations {
+        SHORT_BUFFER
+    } else {
+        0
+    }
 }
 
-// A compute on processor p, of an accepted nest of n iterations: the iteration that it takes gets
-// its value and its done byte, if its sources are there.
+// A compute on processor p, of an accepted nest of so many iterations: the iteration that it takes
+// gets its value and its done byte, if its sources are there.
 pub fn compute(
     s: LoopNest,
-    n: usize,
+    iterations: usize,
     p: usize,
     steps: &[u32],
     processors: &[u8],
@@ -94,8 +98,9 @@ pub fn compute(
     done: &mut [u8],
     delivered: &[u8],
 ) -> Answer
-    requires { ⌜ (refusal s ≡ 0) × (n ≡ length (pointsOf s)) ⌝ }
-    requires { ⌜ Room n (layoutIn (now steps) (now processors)) (stateIn (now values) (now done) (now delivered)) ⌝ }
+    requires { ⌜ (refusal s ≡ 0) × (iterations ≡ length (pointsOf s)) ⌝ }
+    requires { ⌜ Room iterations (layoutIn (now steps) (now processors))
+        (stateIn (now values) (now done) (now delivered)) ⌝ }
     ensures { λ r. ⌜ Answers s (layoutIn (now (steps .entry)) (now (processors .entry)))
         (stateIn (now (values .entry)) (now (done .entry)) (now (delivered .entry))) (compute p) r ⌝ }
     ensures { λ r. ⌜ Leaves s (layoutIn (now (steps .entry)) (now (processors .entry)))
@@ -106,14 +111,14 @@ pub fn compute(
         return Answer::Refused(NO_SUCH_PLACE);
     }
     let processor = p as u8;
-    let k = finding::next_iteration(steps, processors, done, n, processor);
-    if n <= k {
+    let k = finding::next_iteration(steps, processors, done, iterations, processor);
+    if iterations <= k {
         return Answer::Refused(IDLE_PROCESSOR);
     }
-    if !finding::all_there(s, n, processors, done, delivered, processor, k) {
+    if !finding::all_there(s, iterations, processors, done, delivered, processor, k) {
         return Answer::Refused(WAITING);
     }
-    let value = sequential::value_at(s, n, values, k);
+    let value = sequential::value_at(s, iterations, values, k);
     values[k] = value;
     done[k] = 1;
     Answer::Computed(Computation {
@@ -123,25 +128,27 @@ pub fn compute(
 }
 
 // A delivery of the message of iteration k along dependence i, both there, whose source has rank j
-// or is none of the n iterations: its bit is set, if it is a message that can be delivered.
+// or is none of the iterations: its bit is set, if it is a message that can be delivered.
 pub fn deliver_from(
     j: usize,
-    n: usize,
+    iterations: usize,
     k: usize,
     i: usize,
     processors: &[u8],
     done: &[u8],
     delivered: &mut [u8],
 ) -> Answer
-    requires { ⌜ (k < n) × (i < maxDependences) ⌝ }
-    requires { ⌜ (n ≤ length (now processors)) × (n ≤ length (now done)) × (n ≤ length (now delivered)) ⌝ }
+    requires { ⌜ (k < iterations) × (i < maxDependences) ⌝ }
+    requires { ⌜ (iterations ≤ length (now processors)) × (iterations ≤ length (now done))
+        × (iterations ≤ length (now delivered)) ⌝ }
     ensures { λ r. ⌜ r ≡ deliveryAnswer
-        (readyFrom j n (now (processors .entry)) (now (done .entry)) (now (delivered .entry)) k i) k i ⌝ }
+        (readyFrom j iterations (now (processors .entry)) (now (done .entry)) (now (delivered .entry)) k i) k i ⌝ }
     ensures { λ r. ⌜ now (delivered .exit)
-        ≡ deliveryLeft (readyFrom j n (now (processors .entry)) (now (done .entry)) (now (delivered .entry)) k i)
+        ≡ deliveryLeft
+        (readyFrom j iterations (now (processors .entry)) (now (done .entry)) (now (delivered .entry)) k i)
         (now (delivered .entry)) k i ⌝ }
 {
-    if !finding::is_ready(j, n, processors, done, delivered, k, i) {
+    if !finding::is_ready(j, iterations, processors, done, delivered, k, i) {
         return Answer::Refused(OUT_OF_TURN);
     }
     delivered[k] = finding::with_bit(delivered[k], i);
@@ -151,23 +158,24 @@ pub fn deliver_from(
     })
 }
 
-// A delivery of the message of iteration k along dependence i, of an accepted nest of n iterations:
-// its bit is set, if it is a message that can be delivered.
+// A delivery of the message of iteration k along dependence i, of an accepted nest of so many
+// iterations: its bit is set, if it is a message that can be delivered.
 fn deliver(
     s: LoopNest,
-    n: usize,
+    iterations: usize,
     k: usize,
     i: usize,
     processors: &[u8],
     done: &[u8],
     delivered: &mut [u8],
 ) -> Answer
-    requires { ⌜ (refusal s ≡ 0) × (n ≡ length (pointsOf s)) ⌝ }
-    requires { ⌜ (n ≤ length (now processors)) × (n ≤ length (now done)) × (n ≤ length (now delivered)) ⌝ }
+    requires { ⌜ (refusal s ≡ 0) × (iterations ≡ length (pointsOf s)) ⌝ }
+    requires { ⌜ (iterations ≤ length (now processors)) × (iterations ≤ length (now done))
+        × (iterations ≤ length (now delivered)) ⌝ }
     ensures { λ r. ⌜ Delivers s (now (processors .entry)) (now (done .entry)) (now (delivered .entry)) k i r
         (now (delivered .exit)) ⌝ }
 {
-    if n <= k {
+    if iterations <= k {
         return Answer::Refused(NO_SUCH_PLACE);
     }
     if nest::to_size(s.count) <= i {
@@ -175,7 +183,7 @@ fn deliver(
     }
     let point = nest::point_of(s, k);
     let j = nest::source_at(s, point, i);
-    deliver_from(j, n, k, i, processors, done, delivered)
+    deliver_from(j, iterations, k, i, processors, done, delivered)
 }
 
 // Makes the move that is asked for, on the step and processor tables of a plan and on the state's
@@ -197,12 +205,12 @@ pub fn make_move(
 {
     let known = nest::inspect(s);
     let refusal = known.refusal;
-    let n = known.iterations;
+    let iterations = known.iterations;
     if refusal != 0 {
         return Answer::Refused(refusal);
     }
     let room = check_buffers(
-        n,
+        iterations,
         steps.len(),
         processors.len(),
         values.len(),
@@ -214,7 +222,15 @@ pub fn make_move(
     }
     let what = request.what;
     match what {
-        Move::Compute(p) => compute(s, n, p, steps, processors, values, done, delivered),
-        Move::Deliver(d) => deliver(s, n, d.rank, d.dependence, processors, done, delivered),
+        Move::Compute(p) => compute(s, iterations, p, steps, processors, values, done, delivered),
+        Move::Deliver(d) => deliver(
+            s,
+            iterations,
+            d.rank,
+            d.dependence,
+            processors,
+            done,
+            delivered,
+        ),
     }
 }

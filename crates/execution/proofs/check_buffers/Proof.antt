@@ -12,24 +12,24 @@ check-room-requires c κs = search needs
 returns : tie.Need-returns
 returns c =
     let a = c .before .before .args in
-    let others = noRoom (a .n) (a .steps) (a .processors) (a .values) (a .done) in
-    let last = shortBuffer (a .n) (a .delivered) in
+    let others = noRoom (a .iterations) (a .steps) (a .processors) (a .values) (a .done) in
+    let last = shortBuffer (a .iterations) (a .delivered) in
     let e = c .before .check-room .ensures in
     e ∙ sym (orElse-first others last (λ z. c .if1 .taken (e ∙ z)))
 
 returns-2 : tie.Need-returns-2
 returns-2 c =
     let a = c .before .before .before .args in
-    let others = noRoom (a .n) (a .steps) (a .processors) (a .values) (a .done) in
-    let last = shortBuffer (a .n) (a .delivered) in
-    sym (orElse-second others last (sym (c .before .before .check-room .ensures) ∙ c .before .if1 .left) ∙ too-short (a .n) (a .delivered) (c .if2 .taken))
+    let others = noRoom (a .iterations) (a .steps) (a .processors) (a .values) (a .done) in
+    let last = shortBuffer (a .iterations) (a .delivered) in
+    sym (orElse-second others last (sym (c .before .before .check-room .ensures) ∙ c .before .if1 .left) ∙ too-short (a .iterations) (a .delivered) (c .if2 .taken))
 
 returns-3 : tie.Need-returns-3
 returns-3 c =
     let a = c .before .before .before .args in
-    let others = noRoom (a .n) (a .steps) (a .processors) (a .values) (a .done) in
-    let last = shortBuffer (a .n) (a .delivered) in
-    sym (orElse-second others last (sym (c .before .before .check-room .ensures) ∙ c .before .if1 .left) ∙ long-enough (a .n) (a .delivered) (c .if2 .left))
+    let others = noRoom (a .iterations) (a .steps) (a .processors) (a .values) (a .done) in
+    let last = shortBuffer (a .iterations) (a .delivered) in
+    sym (orElse-second others last (sym (c .before .before .check-room .ensures) ∙ c .before .if1 .left) ∙ long-enough (a .iterations) (a .delivered) (c .if2 .left))
 
 pub check-buffers-spec : {M : Type 1} → statement M
 check-buffers-spec = tie.close (tie.spec check-room-requires returns returns-2 returns-3)

@@ -12,7 +12,7 @@ returns : tie.Need-returns
 returns c =
     let t = c .before .before .before .before .before .before .before in
     let a = t .args in
-    no-processor (a .s) (a .steps .now) (a .processors .now) (a .values .now) (a .done .now) (a .delivered .now) (a .n) (t .pre .0 .1) (a .p) (c .before .processors-in .result) (c .before .processors-in .ensures .0) (c .if1 .taken)
+    no-processor (a .s) (a .steps .now) (a .processors .now) (a .values .now) (a .done .now) (a .delivered .now) (a .iterations) (t .pre .0 .1) (a .p) (c .before .processors-in .result) (c .before .processors-in .ensures .0) (c .if1 .taken)
 
 cast-processor : tie.Need-cast-processor
 cast-processor c = search needs
@@ -27,7 +27,7 @@ returns-2 : tie.Need-returns-2
 returns-2 c =
     let t = c .before .before .before .before .before .before .before .before .before .before in
     let a = t .args in
-    idle (a .s) (a .steps .now) (a .processors .now) (a .values .now) (a .done .now) (a .delivered .now) (a .n) (t .pre .0 .1) (a .p) (c .before .before .before .before .processors-in .result) (c .before .next-iteration .result) (c .before .before .before .before .processors-in .ensures .0) (c .before .before .before .if1 .left) (c .before .next-iteration .ensures) (c .if2 .taken)
+    idle (a .s) (a .steps .now) (a .processors .now) (a .values .now) (a .done .now) (a .delivered .now) (a .iterations) (t .pre .0 .1) (a .p) (c .before .before .before .before .processors-in .result) (c .before .next-iteration .result) (c .before .before .before .before .processors-in .ensures .0) (c .before .before .before .if1 .left) (c .before .next-iteration .ensures) (c .if2 .taken)
 
 all-there-requires : tie.Need-all-there-requires
 all-there-requires c κs = search needs
@@ -39,7 +39,7 @@ returns-3 : tie.Need-returns-3
 returns-3 c =
     let t = c .before .before .before .before .before .before .before .before .before .before .before .before .before in
     let a = t .args in
-    waiting (a .s) (a .steps .now) (a .processors .now) (a .values .now) (a .done .now) (a .delivered .now) (a .n) (t .pre .0 .1) (a .p) (c .before .before .before .before .before .before .before .processors-in .result) (c .before .before .before .before .next-iteration .result) (c .before .before .before .before .before .before .before .processors-in .ensures .0) (c .before .before .before .before .before .before .if1 .left) (c .before .before .before .before .next-iteration .ensures) (c .before .all-there .result) (c .before .before .before .if2 .left) (c .before .all-there .ensures) (not-true _ (c .if3 .taken))
+    waiting (a .s) (a .steps .now) (a .processors .now) (a .values .now) (a .done .now) (a .delivered .now) (a .iterations) (t .pre .0 .1) (a .p) (c .before .before .before .before .before .before .before .processors-in .result) (c .before .before .before .before .next-iteration .result) (c .before .before .before .before .before .before .before .processors-in .ensures .0) (c .before .before .before .before .before .before .if1 .left) (c .before .before .before .before .next-iteration .ensures) (c .before .all-there .result) (c .before .before .before .if2 .left) (c .before .all-there .ensures) (not-true _ (c .if3 .taken))
 
 value-at-requires : tie.Need-value-at-requires
 value-at-requires c κs = search needs
@@ -63,7 +63,7 @@ returns-4 : tie.Need-returns-4
 returns-4 c =
     let t = c .before .before .before .before .before .before .before .before .before .before .before .before .before .before .before in
     let a = t .args in
-    computes (a .s) (a .steps .now) (a .processors .now) (a .values .now) (a .done .now) (a .delivered .now) (a .n) (t .pre .0 .1) (a .p) (c .before .before .before .before .before .before .before .before .before .processors-in .result) (c .before .before .before .before .before .before .next-iteration .result) (c .before .before .before .before .before .before .before .before .before .processors-in .ensures .0) (c .before .before .before .before .before .before .before .before .if1 .left) (c .before .before .before .before .before .before .next-iteration .ensures) (c .before .before .before .all-there .result) (c .value-at .result) (c .before .before .before .before .before .if2 .left) (c .before .before .before .all-there .ensures) (not-false _ (c .before .before .if3 .left)) (c .value-at .ensures)
+    computes (a .s) (a .steps .now) (a .processors .now) (a .values .now) (a .done .now) (a .delivered .now) (a .iterations) (t .pre .0 .1) (a .p) (c .before .before .before .before .before .before .before .before .before .processors-in .result) (c .before .before .before .before .before .before .next-iteration .result) (c .before .before .before .before .before .before .before .before .before .processors-in .ensures .0) (c .before .before .before .before .before .before .before .before .if1 .left) (c .before .before .before .before .before .before .next-iteration .ensures) (c .before .before .before .all-there .result) (c .value-at .result) (c .before .before .before .before .before .if2 .left) (c .before .before .before .all-there .ensures) (not-false _ (c .before .before .if3 .left)) (c .value-at .ensures)
 
 pub compute-spec : {M : Type 1} → statement M
 compute-spec =

@@ -23,7 +23,7 @@ returns : tie.Need-returns
 returns c =
     let t = c .before .before .before .before in
     let a = t .args in
-    no-rank (a .s) (a .processors .now) (a .done .now) (a .delivered .now) (a .n) (t .pre .0 .1) (a .k) (a .i) (c .if1 .taken)
+    no-rank (a .s) (a .processors .now) (a .done .now) (a .delivered .now) (a .iterations) (t .pre .0 .1) (a .k) (a .i) (c .if1 .taken)
 
 to-size-requires : tie.Need-to-size-requires
 to-size-requires c κs = search needs
@@ -32,7 +32,7 @@ returns-2 : tie.Need-returns-2
 returns-2 c =
     let t = c .before .before .before .before .before .before .before in
     let a = t .args in
-    no-dependence (a .s) (a .processors .now) (a .done .now) (a .delivered .now) (a .n) (t .pre .0 .1) (a .k) (a .i) (c .before .to-size .result) (dependences (c .before)) (c .if2 .taken)
+    no-dependence (a .s) (a .processors .now) (a .done .now) (a .delivered .now) (a .iterations) (t .pre .0 .1) (a .k) (a .i) (c .before .to-size .result) (dependences (c .before)) (c .if2 .taken)
 
 point-of-requires : tie.Need-point-of-requires
 point-of-requires c κs = let t = c .before .before .before .before .before .before .before in (t .pre .0 .0, omega (arith, t .pre .0 .1, c .before .before .before .if1 .left))
@@ -61,7 +61,7 @@ returns-3 c =
     let t = e .before .before .before .before .before .before .before in
     let a = t .args in
     let h = e .before .before .before .if1 .left in
-    delivers-from (a .s) (a .processors .now) (a .done .now) (a .delivered .now) (a .n) (t .pre .0 .1) (a .k) (a .i) (j .result) (f .result) (f .last .1 .1 .1 .1 .1 .1 .0) h (there e)
+    delivers-from (a .s) (a .processors .now) (a .done .now) (a .delivered .now) (a .iterations) (t .pre .0 .1) (a .k) (a .i) (j .result) (f .result) (f .last .1 .1 .1 .1 .1 .1 .0) h (there e)
     (answer-is (a .s) (a .k) (a .i) (j .result) (x .result) (omega (arith, t .pre .0 .1, h)) (x .ensures) (j .ensures)) (f .ensures .0) (f .ensures .1)
 
 pub deliver-spec : {M : Type 1} → statement M

@@ -10,10 +10,10 @@ use Rattle.execution.proofs.deliver_from.Statement.{statement}
 use Rattle.execution.proofs.deliver_from.Tie as tie
 
 -- what the test says
-waits : (c : tie.Then1) → (let a = c .before .before .before .before .before .before .args in readyFrom (a .j) (a .n) (a .processors .now) (a .done .now) (a .delivered .now) (a .k) (a .i) ≡ false)
+waits : (c : tie.Then1) → (let a = c .before .before .before .before .before .before .args in readyFrom (a .j) (a .iterations) (a .processors .now) (a .done .now) (a .delivered .now) (a .k) (a .i) ≡ false)
 waits c = sym (c .before .is-ready .ensures) ∙ not-true _ (c .if1 .taken)
 
-ready : (c : tie.Else1) → (let a = c .before .before .before .before .before .before .args in readyFrom (a .j) (a .n) (a .processors .now) (a .done .now) (a .delivered .now) (a .k) (a .i) ≡ true)
+ready : (c : tie.Else1) → (let a = c .before .before .before .before .before .before .args in readyFrom (a .j) (a .iterations) (a .processors .now) (a .done .now) (a .delivered .now) (a .k) (a .i) ≡ true)
 ready c = sym (c .before .is-ready .ensures) ∙ not-false _ (c .if1 .left)
 
 is-ready-requires : tie.Need-is-ready-requires
@@ -34,7 +34,7 @@ with-bit-requires : tie.Need-with-bit-requires
 with-bit-requires c κs =
     let t = c .before .before .before .before .before .before .before in
     let a = t .args in
-    (t .pre .0 .1, from-free (a .j) (a .n) (a .k) (a .i) (a .processors .now) (a .done .now) (a .delivered .now) (ready (c .before)))
+    (t .pre .0 .1, from-free (a .j) (a .iterations) (a .k) (a .i) (a .processors .now) (a .done .now) (a .delivered .now) (ready (c .before)))
 
 slice-write-delivered : tie.Need-slice-write-delivered
 slice-write-delivered c = search needs

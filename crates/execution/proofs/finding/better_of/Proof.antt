@@ -10,7 +10,7 @@ shared-slice-read-if1 c = search needs
 returns : tie.Need-returns
 returns c =
     let a = c .before .before .args in
-    kept-elsewhere (a .steps .now) (a .processors .now) (a .done .now) (a .n) (a .p) (a .k) (a .best) (c .if1 .taken)
+    kept-elsewhere (a .steps .now) (a .processors .now) (a .done .now) (a .iterations) (a .p) (a .k) (a .best) (c .if1 .taken)
 
 shared-slice-read-if2 : tie.Need-shared-slice-read-if2
 shared-slice-read-if2 c = search needs
@@ -18,12 +18,12 @@ shared-slice-read-if2 c = search needs
 returns-2 : tie.Need-returns-2
 returns-2 c =
     let a = c .before .before .before .before .args in
-    kept-done (a .steps .now) (a .processors .now) (a .done .now) (a .n) (a .p) (a .k) (a .best) (c .if2 .taken)
+    kept-done (a .steps .now) (a .processors .now) (a .done .now) (a .iterations) (a .p) (a .k) (a .best) (c .if2 .taken)
 
 returns-3 : tie.Need-returns-3
 returns-3 c =
     let a = c .before .before .before .before .before .args in
-    taken-first (a .steps .now) (a .processors .now) (a .done .now) (a .n) (a .p) (a .k) (a .best) (c .before .if2 .left) (c .before .before .before .if1 .left) (c .if3 .taken)
+    taken-first (a .steps .now) (a .processors .now) (a .done .now) (a .iterations) (a .p) (a .k) (a .best) (c .before .if2 .left) (c .before .before .before .if1 .left) (c .if3 .taken)
 
 mul-if4 : tie.Need-mul-if4
 mul-if4 c = search needs
@@ -40,12 +40,12 @@ shared-slice-read-if4-2 c = search needs
 returns-4 : tie.Need-returns-4
 returns-4 c =
     let a = c .before .before .before .before .before .before .before .before .args in
-    taken-less (a .steps .now) (a .processors .now) (a .done .now) (a .n) (a .p) (a .k) (a .best) (c .before .before .before .before .if2 .left) (c .before .before .before .before .before .before .if1 .left) (c .before .before .before .if3 .left) (c .if4 .taken)
+    taken-less (a .steps .now) (a .processors .now) (a .done .now) (a .iterations) (a .p) (a .k) (a .best) (c .before .before .before .before .if2 .left) (c .before .before .before .before .before .before .if1 .left) (c .before .before .before .if3 .left) (c .if4 .taken)
 
 returns-5 : tie.Need-returns-5
 returns-5 c =
     let a = c .before .before .before .before .before .before .before .before .args in
-    kept-least (a .steps .now) (a .processors .now) (a .done .now) (a .n) (a .p) (a .k) (a .best) (c .before .before .before .before .if2 .left) (c .before .before .before .before .before .before .if1 .left) (c .before .before .before .if3 .left) (c .if4 .left)
+    kept-least (a .steps .now) (a .processors .now) (a .done .now) (a .iterations) (a .p) (a .k) (a .best) (c .before .before .before .before .if2 .left) (c .before .before .before .before .before .before .if1 .left) (c .before .before .before .if3 .left) (c .if4 .left)
 
 pub better-of-spec : {M : Type 1} → statement M
 better-of-spec =

@@ -7,7 +7,7 @@ use Rattle.execution.proofs.finding.is_ready.Tie as tie
 returns : tie.Need-returns
 returns c =
     let a = c .before .before .before .before .args in
-    from-none (a .j) (a .n) (a .k) (a .i) (a .processors .now) (a .done .now) (a .delivered .now) (c .if1 .taken)
+    from-none (a .j) (a .iterations) (a .k) (a .i) (a .processors .now) (a .done .now) (a .delivered .now) (c .if1 .taken)
 
 shared-slice-read-if2 : tie.Need-shared-slice-read-if2
 shared-slice-read-if2 c = search needs
@@ -18,7 +18,7 @@ shared-slice-read-if2-2 c = search needs
 returns-2 : tie.Need-returns-2
 returns-2 c =
     let a = c .before .before .before .before .before .before .before .args in
-    from-same (a .j) (a .n) (a .k) (a .i) (a .processors .now) (a .done .now) (a .delivered .now) (c .before .before .before .if1 .left) (c .if2 .taken)
+    from-same (a .j) (a .iterations) (a .k) (a .i) (a .processors .now) (a .done .now) (a .delivered .now) (c .before .before .before .if1 .left) (c .if2 .taken)
 
 shared-slice-read-if3 : tie.Need-shared-slice-read-if3
 shared-slice-read-if3 c = search needs
@@ -26,7 +26,7 @@ shared-slice-read-if3 c = search needs
 returns-3 : tie.Need-returns-3
 returns-3 c =
     let a = c .before .before .before .before .before .before .before .before .before .args in
-    from-missing (a .j) (a .n) (a .k) (a .i) (a .processors .now) (a .done .now) (a .delivered .now) (c .before .before .before .before .before .if1 .left) (c .before .before .if2 .left) (c .if3 .taken)
+    from-missing (a .j) (a .iterations) (a .k) (a .i) (a .processors .now) (a .done .now) (a .delivered .now) (c .before .before .before .before .before .if1 .left) (c .before .before .if2 .left) (c .if3 .taken)
 
 shared-slice-read-bit-set : tie.Need-shared-slice-read-bit-set
 shared-slice-read-bit-set c = search needs
@@ -37,7 +37,7 @@ bit-set-requires c κs = c .before .before .before .before .before .before .befo
 returns-4 : tie.Need-returns-4
 returns-4 c =
     let a = c .before .before .before .before .before .before .before .before .before .before .before .args in
-    from-bit (a .j) (a .n) (a .k) (a .i) (a .processors .now) (a .done .now) (a .delivered .now) (c .bit-set .result) (c .before .before .before .before .before .before .before .if1 .left) (c .before .before .before .before .if2 .left) (c .before .before .if3 .left) (c .bit-set .ensures)
+    from-bit (a .j) (a .iterations) (a .k) (a .i) (a .processors .now) (a .done .now) (a .delivered .now) (c .bit-set .result) (c .before .before .before .before .before .before .before .if1 .left) (c .before .before .before .before .if2 .left) (c .before .before .if3 .left) (c .bit-set .ensures)
 
 pub is-ready-spec : {M : Type 1} → statement M
 is-ready-spec =

@@ -18,7 +18,7 @@ next-on-requires c κs = search needs
 loop-holds : tie.Need-loop-holds Inv-loop μ-loop
 loop-holds c =
     let a = c .before .before .before .before .args in
-    found-start (a .steps .now) (a .processors .now) (a .done .now) (a .n) (a .p) (c .next-on .result) (c .next-on .ensures)
+    found-start (a .steps .now) (a .processors .now) (a .done .now) (a .iterations) (a .p) (c .next-on .result) (c .next-on .ensures)
 
 better-of-requires : tie.Need-better-of-requires Inv-loop μ-loop
 better-of-requires c κs = search needs
@@ -34,7 +34,7 @@ loop-less c =
     let d = c .before .before .before in
     let a = d .before .before .before .before .before .args in
     let l = c .before .before .loop-test .taken in
-    let u = goes-up (a .steps .now) (a .processors .now) (a .done .now) (a .n) (a .p) (d .loop .k + 1) (c .next-on2 .result) (c .next-on2 .ensures) in
+    let u = goes-up (a .steps .now) (a .processors .now) (a .done .now) (a .iterations) (a .p) (d .loop .k + 1) (c .next-on2 .result) (c .next-on2 .ensures) in
     omega arith
 
 loop-again : tie.Need-loop-again Inv-loop μ-loop
@@ -42,8 +42,8 @@ loop-again c =
     let d = c .before .before .before in
     let a = d .before .before .before .before .before .args in
     let b = c .before .better-of in
-    found-skip (a .steps .now) (a .processors .now) (a .done .now) (a .n) (a .p) (d .loop .k + 1) (b .result) (c .next-on2 .result)
-    (found-next (a .steps .now) (a .processors .now) (a .done .now) (a .n) (a .p) (d .loop .k) (d .loop .best) (b .result) (c .before .before .loop-test .taken) (d .loop .inv .2) (b .ensures))
+    found-skip (a .steps .now) (a .processors .now) (a .done .now) (a .iterations) (a .p) (d .loop .k + 1) (b .result) (c .next-on2 .result)
+    (found-next (a .steps .now) (a .processors .now) (a .done .now) (a .iterations) (a .p) (d .loop .k) (d .loop .best) (b .result) (c .before .before .loop-test .taken) (d .loop .inv .2) (b .ensures))
     (c .next-on2 .ensures)
 
 returns : tie.Need-returns Inv-loop μ-loop

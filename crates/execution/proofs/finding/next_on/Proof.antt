@@ -33,7 +33,7 @@ returns : tie.Need-returns Inv-loop μ-loop
 returns c =
     let d = c .before .before .before in
     let a = d .before .args in
-    first-here (here (a .processors .now) (a .p)) (a .n) (d .loop .j) (c .before .before .loop-test .taken) (eq-eqb (getD (a .processors .now) (d .loop .j) 0) (a .p) (c .if1 .taken)) ∙ sym (d .loop .inv .1)
+    first-here (here (a .processors .now) (a .p)) (a .iterations) (d .loop .j) (c .before .before .loop-test .taken) (eq-eqb (getD (a .processors .now) (d .loop .j) 0) (a .p) (c .if1 .taken)) ∙ sym (d .loop .inv .1)
 
 add-j : tie.Need-add-j Inv-loop μ-loop
 add-j c = search needs
@@ -46,13 +46,13 @@ loop-again c =
     let d = c .before .before .before in
     let a = d .before .args in
     let l = c .before .before .loop-test .taken in
-    (omega arith, d .loop .inv .1 ∙ first-later (here (a .processors .now) (a .p)) (a .n) (d .loop .j) l (ne-eqb (getD (a .processors .now) (d .loop .j) 0) (a .p) (c .if1 .left)))
+    (omega arith, d .loop .inv .1 ∙ first-later (here (a .processors .now) (a .p)) (a .iterations) (d .loop .j) l (ne-eqb (getD (a .processors .now) (d .loop .j) 0) (a .p) (c .if1 .left)))
 
 returns-2 : tie.Need-returns-2 Inv-loop μ-loop
 returns-2 c =
     let d = c .before in
     let a = d .before .args in
-    first-none (here (a .processors .now) (a .p)) (a .n) (d .loop .j) (d .loop .inv .0) (c .loop-test .left) ∙ sym (d .loop .inv .1)
+    first-none (here (a .processors .now) (a .p)) (a .iterations) (d .loop .j) (d .loop .inv .0) (c .loop-test .left) ∙ sym (d .loop .inv .1)
 
 pub next-on-spec : {M : Type 1} → statement M
 next-on-spec =

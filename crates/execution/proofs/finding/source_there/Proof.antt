@@ -18,7 +18,7 @@ returns c =
     let t = c .before .before .before .before .before in
     let a = t .args in
     let j = c .before .source-at in
-    there-none (a .s) (a .k) (a .i) (j .result) (a .point) (a .n) (t .pre .0 .1) (t .pre .0 .2) (t .pre .0 .3) (j .ensures) (a .processors .now) (a .done .now) (a .delivered .now) (a .p) (c .if1 .taken)
+    there-none (a .s) (a .k) (a .i) (j .result) (a .point) (a .iterations) (t .pre .0 .1) (t .pre .0 .2) (t .pre .0 .3) (j .ensures) (a .processors .now) (a .done .now) (a .delivered .now) (a .p) (c .if1 .taken)
 
 shared-slice-read-if2 : tie.Need-shared-slice-read-if2
 shared-slice-read-if2 c = search needs
@@ -31,7 +31,7 @@ returns-2 c =
     let t = c .before .before .before .before .before .before .before .before in
     let a = t .args in
     let j = c .before .before .before .before .source-at in
-    there-done (a .s) (a .k) (a .i) (j .result) (a .point) (a .n) (t .pre .0 .1) (t .pre .0 .2) (t .pre .0 .3) (j .ensures) (a .processors .now) (a .done .now) (a .delivered .now) (a .p) _ (c .before .before .before .if1 .left) (c .before .if2 .taken) refl
+    there-done (a .s) (a .k) (a .i) (j .result) (a .point) (a .iterations) (t .pre .0 .1) (t .pre .0 .2) (t .pre .0 .3) (j .ensures) (a .processors .now) (a .done .now) (a .delivered .now) (a .p) _ (c .before .before .before .if1 .left) (c .before .if2 .taken) refl
 
 shared-slice-read-bit-set : tie.Need-shared-slice-read-bit-set
 shared-slice-read-bit-set c = search needs
@@ -46,7 +46,7 @@ returns-3 c =
     let t = c .before .before .before .before .before .before .before .before .before in
     let a = t .args in
     let j = c .before .before .before .before .before .source-at in
-    there-delivered (a .s) (a .k) (a .i) (j .result) (a .point) (a .n) (t .pre .0 .1) (t .pre .0 .2) (t .pre .0 .3) (j .ensures) (a .processors .now) (a .done .now) (a .delivered .now) (a .p) (c .bit-set .result) (c .before .before .before .before .if1 .left) (c .before .before .if2 .left) (c .bit-set .ensures)
+    there-delivered (a .s) (a .k) (a .i) (j .result) (a .point) (a .iterations) (t .pre .0 .1) (t .pre .0 .2) (t .pre .0 .3) (j .ensures) (a .processors .now) (a .done .now) (a .delivered .now) (a .p) (c .bit-set .result) (c .before .before .before .before .if1 .left) (c .before .before .if2 .left) (c .bit-set .ensures)
 
 pub source-there-spec : {M : Type 1} → statement M
 source-there-spec =
