@@ -134,6 +134,6 @@ pub data NumberCalls (s : LoopNest) (L : rules.Layout)
     : State ℕ → List Asked → List ℕ → List (List ℕ) → State ℕ → Type 0 where
   none-asked : {st : State ℕ} → NumberCalls s L st [] [] [] st
   next-asked : {st st′ last : State ℕ} {a : Asked} {more : List Asked}
-      {n : ℕ} {ns : List ℕ} {made : List ℕ} {mades : List (List ℕ)}
-      → MakesInto s L st (askedMove a) n made st′ → NumberCalls s L st′ more ns mades last
-      → NumberCalls s L st (a ∷ more) (n ∷ ns) (made ∷ mades) last
+      {number : ℕ} {numbers : List ℕ} {made : List ℕ} {mades : List (List ℕ)}
+      → MakesInto s L st (askedMove a) number made st′ → NumberCalls s L st′ more numbers mades last
+      → NumberCalls s L st (a ∷ more) (number ∷ numbers) (made ∷ mades) last

@@ -63,36 +63,37 @@ pub fn made_in(answer: Answer) -> [usize; 2]
     }
 }
 
-// `deliver` of the nest that 45 numbers are, accepted and of n iterations.
+// `deliver` of the nest that 45 numbers are, accepted and of so many iterations.
 fn deliver_in(
     numbers: &[i64; NUMBERS],
-    n: usize,
+    iterations: usize,
     k: usize,
     i: usize,
     processors: &[u8],
     done: &[u8],
     delivered: &mut [u8],
 ) -> Answer
-    requires { ⌜ (refusal (nestIn (now numbers)) ≡ 0) × (n ≡ length (pointsOf (nestIn (now numbers)))) ⌝ }
-    requires { ⌜ (n ≤ length (now processors)) × (n ≤ length (now done)) × (n ≤ length (now delivered)) ⌝ }
+    requires { ⌜ (refusal (nestIn (now numbers)) ≡ 0) × (iterations ≡ length (pointsOf (nestIn (now numbers)))) ⌝ }
+    requires { ⌜ (iterations ≤ length (now processors)) × (iterations ≤ length (now done))
+        × (iterations ≤ length (now delivered)) ⌝ }
     ensures { λ r. ⌜ Delivers (nestIn (now (numbers .entry))) (now (processors .entry)) (now (done .entry))
         (now (delivered .entry)) k i r (now (delivered .exit)) ⌝ }
 {
-    if n <= k {
+    if iterations <= k {
         return Answer::Refused(NO_SUCH_PLACE);
     }
     if nest::to_size(numbers[1]) <= i {
         return Answer::Refused(NO_SUCH_PLACE);
     }
-    let j = source_in(numbers, n, k, i);
-    execution::deliver_from(j, n, k, i, processors, done, delivered)
+    let j = source_in(numbers, iterations, k, i);
+    execution::deliver_from(j, iterations, k, i, processors, done, delivered)
 }
 
-// The move that is asked for, of the accepted nest of n iterations that 45 numbers are, which is
-// copied for a compute alone.
+// The move that is asked for, of the accepted nest of so many iterations that 45 numbers are, which
+// is copied for a compute alone.
 fn move_on(
     numbers: &[i64; NUMBERS],
-    n: usize,
+    iterations: usize,
     what: Move,
     steps: &[u32],
     processors: &[u8],
@@ -100,8 +101,9 @@ fn move_on(
     done: &mut [u8],
     delivered: &mut [u8],
 ) -> Answer
-    requires { ⌜ (refusal (nestIn (now numbers)) ≡ 0) × (n ≡ length (pointsOf (nestIn (now numbers)))) ⌝ }
-    requires { ⌜ Room n (layoutIn (now steps) (now processors)) (stateIn (now values) (now done) (now delivered)) ⌝ }
+    requires { ⌜ (refusal (nestIn (now numbers)) ≡ 0) × (iterations ≡ length (pointsOf (nestIn (now numbers)))) ⌝ }
+    requires { ⌜ Room iterations (layoutIn (now steps) (now processors))
+        (stateIn (now values) (now done) (now delivered)) ⌝ }
     ensures { λ r. ⌜ Answers (nestIn (now (numbers .entry))) (layoutIn (now (steps .entry)) (now (processors .entry)))
         (stateIn (now (values .entry)) (now (done .entry)) (now (delivered .entry))) (moveOf what) r ⌝ }
     ensures { λ r. ⌜ Leaves (nestIn (now (numbers .entry))) (layoutIn (now (steps .entry)) (now (processors .entry)))
@@ -111,11 +113,11 @@ fn move_on(
     match what {
         Move::Compute(p) => {
             let s = nest_in(numbers);
-            execution::compute(s, n, p, steps, processors, values, done, delivered)
+            execution::compute(s, iterations, p, steps, processors, values, done, delivered)
         }
         Move::Deliver(d) => deliver_in(
             numbers,
-            n,
+            iterations,
             d.rank,
             d.dependence,
             processors,
@@ -142,12 +144,12 @@ pub fn make_move_in(
 {
     let known = inspect_in(numbers);
     let refusal = known.refusal;
-    let n = known.iterations;
+    let iterations = known.iterations;
     if refusal != 0 {
         return Answer::Refused(refusal);
     }
     let room = execution::check_buffers(
-        n,
+        iterations,
         steps.len(),
         processors.len(),
         values.len(),
@@ -157,5 +159,14 @@ pub fn make_move_in(
     if room != 0 {
         return Answer::Refused(room);
     }
-    move_on(numbers, n, what, steps, processors, values, done, delivered)
+    move_on(
+        numbers,
+        iterations,
+        what,
+        steps,
+        processors,
+        values,
+        done,
+        delivered,
+    )
 }

@@ -31,13 +31,13 @@ const WEIGHTS: usize = BOUNDARY + 1;
 // How many numbers a nest has.
 pub const NUMBERS: usize = WEIGHTS + LoopNest::MAX_DEPENDENCES;
 
-// Copies n numbers, from place `from` of one array on, to place `at` of
+// Copies so many numbers, from place `from` of one array on, to place `at` of
 // another and those behind it.
-fn copy(out: &mut [i64], at: usize, numbers: &[i64], from: usize, n: usize)
-    requires { ⌜ (at + n ≤ length (now out)) × (from + n ≤ length (now numbers)) ⌝ }
-    ensures { λ _. ⌜ now (out .exit) ≡ sets (now (out .entry)) at (part (now (numbers .entry)) from n) ⌝ }
+fn copy(out: &mut [i64], at: usize, numbers: &[i64], from: usize, count: usize)
+    requires { ⌜ (at + count ≤ length (now out)) × (from + count ≤ length (now numbers)) ⌝ }
+    ensures { λ _. ⌜ now (out .exit) ≡ sets (now (out .entry)) at (part (now (numbers .entry)) from count) ⌝ }
 {
-    for k in 0..n {
+    for k in 0..count {
         out[at + k] = numbers[from + k];
     }
 }
@@ -87,12 +87,12 @@ pub fn inspect_in(numbers: &[i64]) -> Inspection
     )
 }
 
-// The rank of the source of iteration k along dependence i, of the accepted nest of n iterations
-// that 45 numbers are; n where the source is none of them.
-pub fn source_in(numbers: &[i64], n: usize, k: usize, i: usize) -> usize
+// The rank of the source of iteration k along dependence i, of the accepted nest of so many
+// iterations that 45 numbers are; their number where the source is none of them.
+pub fn source_in(numbers: &[i64], iterations: usize, k: usize, i: usize) -> usize
     requires { ⌜ length (now numbers) ≡ boundaryAt + 1 + maxDependences ⌝ }
-    requires { ⌜ (refusal (nestIn (now numbers)) ≡ 0) × (n ≡ length (pointsOf (nestIn (now numbers)))) × (k < n)
-        × (i < countOf (nestIn (now numbers))) ⌝ }
+    requires { ⌜ (refusal (nestIn (now numbers)) ≡ 0) × (iterations ≡ length (pointsOf (nestIn (now numbers))))
+        × (k < iterations) × (i < countOf (nestIn (now numbers))) ⌝ }
     ensures { λ r. ⌜ IsSource (nestIn (now (numbers .entry))) k i r ⌝ }
 {
     let depth = nest::to_size(numbers[0]);
@@ -101,7 +101,7 @@ pub fn source_in(numbers: &[i64], n: usize, k: usize, i: usize) -> usize
         &numbers[UPPER..TIME],
         &numbers[DEPENDENCES..BOUNDARY],
         depth,
-        n,
+        iterations,
         k,
         i,
     )

@@ -177,7 +177,7 @@ record AsEntries (s : LoopNest) (L : Layout) (st : State ℕ) (asks : List Asked
 as-entries : (s : LoopNest) (L : Layout) (st : State ℕ) (asks : List Asked) (numbers : List ℕ) (mades : List (List ℕ)) (last : State ℕ) → NumberCalls s L st asks numbers mades last
     → AsEntries s L st asks numbers mades last
 as-entries s L st asks numbers mades last none-asked = record { answered = []; calls = no-entry; numbers-are = refl; mades-are = refl }
-as-entries s L st asks numbers mades last (next-asked {st′ = st′} {more = more} {ns = ns} {mades = others} m c) =
+as-entries s L st asks numbers mades last (next-asked {st′ = st′} {more = more} {numbers = ns} {mades = others} m c) =
     let h = as-entries s L st′ more ns others last c in
     record {
       answered = m .0 ∷ h .answered;

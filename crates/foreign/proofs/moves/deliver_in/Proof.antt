@@ -28,7 +28,7 @@ returns : tie.Need-returns
 returns c =
     let t = c .before .before .before .before in
     let a = t .args in
-    no-rank (nestIn (a .numbers .now)) (a .processors .now) (a .done .now) (a .delivered .now) (a .n) (t .pre .0 .1) (a .k) (a .i) (c .if1 .taken)
+    no-rank (nestIn (a .numbers .now)) (a .processors .now) (a .done .now) (a .delivered .now) (a .iterations) (t .pre .0 .1) (a .k) (a .i) (c .if1 .taken)
 
 element-copy-out-to-size : tie.Need-element-copy-out-to-size
 element-copy-out-to-size c = search needs
@@ -40,7 +40,7 @@ returns-2 : tie.Need-returns-2
 returns-2 c =
     let t = c .before .before .before .before .before .before .before in
     let a = t .args in
-    no-dependence (nestIn (a .numbers .now)) (a .processors .now) (a .done .now) (a .delivered .now) (a .n) (t .pre .0 .1) (a .k) (a .i) (c .before .to-size .result) (dependences (c .before)) (c .if2 .taken)
+    no-dependence (nestIn (a .numbers .now)) (a .processors .now) (a .done .now) (a .delivered .now) (a .iterations) (t .pre .0 .1) (a .k) (a .i) (c .before .to-size .result) (dependences (c .before)) (c .if2 .taken)
 
 source-in-requires : tie.Need-source-in-requires
 source-in-requires c κs =
@@ -66,7 +66,7 @@ returns-3 c =
     let e = c .before .before .before .before .before .before in
     let t = e .before .before .before .before .before .before .before in
     let a = t .args in
-    delivers-from (nestIn (a .numbers .now)) (a .processors .now) (a .done .now) (a .delivered .now) (a .n) (t .pre .0 .1) (a .k) (a .i) (j .result) (f .result) (f .last .1 .1 .1 .1 .1 .1 .0) (e .before .before .before .if1 .left) (there e) (j .ensures) (f .ensures .0) (f .ensures .1)
+    delivers-from (nestIn (a .numbers .now)) (a .processors .now) (a .done .now) (a .delivered .now) (a .iterations) (t .pre .0 .1) (a .k) (a .i) (j .result) (f .result) (f .last .1 .1 .1 .1 .1 .1 .0) (e .before .before .before .if1 .left) (there e) (j .ensures) (f .ensures .0) (f .ensures .1)
 
 pub deliver-in-spec : {M : Type 1} → statement M
 deliver-in-spec =

@@ -20,10 +20,10 @@ abbrev μ-loop : tie.MeasureT-loop
 long : (d : tie.At-loop Inv-loop μ-loop) → length (d .loop .out) ≡ length (d .before .args .out .now)
 long d =
     let a = d .before .args in
-    copied-length (a .out .now) (a .at) (a .numbers .now) (a .from) (a .n) (d .loop .k) (d .loop .out) (d .loop .inv)
+    copied-length (a .out .now) (a .at) (a .numbers .now) (a .from) (a .count) (d .loop .k) (d .loop .out) (d .loop .inv)
 
 loop-holds : tie.Need-loop-holds Inv-loop μ-loop
-loop-holds c = copied-start (c .args .out .now) (c .args .at) (c .args .numbers .now) (c .args .from) (c .args .n)
+loop-holds c = copied-start (c .args .out .now) (c .args .at) (c .args .numbers .now) (c .args .from) (c .args .count)
 
 add-out : tie.Need-add-out Inv-loop μ-loop
 add-out c = search needs
@@ -54,7 +54,7 @@ loop-again c =
     let a = c .before .before .before .args in
     let l = c .before .before .loop in
     let el = getD (a .numbers .now) (a .from + l .k) (pos 0) in
-    rw (told el (c .out .given)) (copied-more (a .out .now) (a .at) (a .numbers .now) (a .from) (a .n) (l .k) (l .out) (c .before .loop-test .taken) (l .inv))
+    rw (told el (c .out .given)) (copied-more (a .out .now) (a .at) (a .numbers .now) (a .from) (a .count) (l .k) (l .out) (c .before .loop-test .taken) (l .inv))
 
 same-length : tie.Need-same-length Inv-loop μ-loop
 same-length c = long (c .before)
@@ -63,7 +63,7 @@ returns : tie.Need-returns Inv-loop μ-loop
 returns c =
     let l = c .before .loop in
     let a = c .before .before .args in
-    copied-end (a .out .now) (a .at) (a .numbers .now) (a .from) (a .n) (l .k) (l .out) (omega arith) (l .inv)
+    copied-end (a .out .now) (a .at) (a .numbers .now) (a .from) (a .count) (l .k) (l .out) (omega arith) (l .inv)
 
 pub copy-spec : {M : Type 1} → statement M
 copy-spec =

@@ -58,7 +58,7 @@ source-rank-requires c κs =
     let h = s .pre .0 in
     let p = s .pre .1 in
     let l = lengths-lent xs in
-    asked (nestIn xs) (a .k) (a .i) (p .3) (take 3 (drop 3 xs)) (take 3 (drop 6 xs)) (take 24 (drop 12 xs)) (d .to-size .result) (lower-lent xs h) (upper-lent xs h) (dependences-lent xs h) (depth-is d) (a .n) (p .0) (l .0)
+    asked (nestIn xs) (a .k) (a .i) (p .3) (take 3 (drop 3 xs)) (take 3 (drop 6 xs)) (take 24 (drop 12 xs)) (d .to-size .result) (lower-lent xs h) (upper-lent xs h) (dependences-lent xs h) (depth-is d) (a .iterations) (p .0) (l .0)
     (l .1) (l .2) (p .1) (p .2)
 
 returns : tie.Need-returns
