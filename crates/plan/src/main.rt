@@ -52,8 +52,8 @@ fn put_listing(text: &[u8], out: &mut [u8]) -> usize
 
 fn main() {
     let mut text = input_buffer();
-    let n = io::read_full(STDIN_FILENO, &mut text);
+    let given = io::read_full(STDIN_FILENO, &mut text);
     let mut out = [0u8; MOST_PRINTED];
-    let length = put_listing(&text[..n], &mut out);
+    let length = put_listing(&text[..given], &mut out);
     io::write_all(STDOUT_FILENO, &out[..length]);
 }

@@ -34,11 +34,12 @@ pub extern "C" fn rowlock_check(numbers: &[i64; NUMBERS]) -> u8
 
 // The same, with the number of iterations of an accepted nest; 0 for a refused one.
 #[no_mangle]
-pub extern "C" fn rowlock_inspect(numbers: &[i64; NUMBERS], n: &mut usize) -> u8
-    ensures { λ r. ⌜ Inspects (nestIn (now (numbers .entry))) (record { refusal = r; iterations = now (n .exit) }) ⌝ }
+pub extern "C" fn rowlock_inspect(numbers: &[i64; NUMBERS], iterations: &mut usize) -> u8
+    ensures { λ r. ⌜ Inspects (nestIn (now (numbers .entry)))
+        (record { refusal = r; iterations = now (iterations .exit) }) ⌝ }
 {
     let known = nest::inspect(nest_in(numbers));
-    *n = known.iterations;
+    *iterations = known.iterations;
     known.refusal
 }
 
