@@ -12,8 +12,9 @@ use lib.Dec.{ltb, eqb}
 use lib.Pow.{pow-mono}
 use borrow.Author.Tests.{ltb-true, ltb-false, eqb-true, eqb-false}
 use Rattle.integers.specs.Lists.{tab, total}
-use Rattle.integers.proofs.Lists.{tab-same, split, clash, and-true, or-true}
+use Rattle.integers.proofs.Lists.{tab-same, split, clash, and-left, and-right, or-true}
 use Rattle.mapping.specs.GroupNumbers.{oneIf}
+use Rattle.mapping.proofs.Counting.{one-yes, one-no}
 use Rattle.mapping.proofs.Messages.{count-tab-more, count-none, total-tab-more, total-none}
 use Rattle.execution.specs.Rules.{every, better, least}
 use Rattle.execution.specs.Machine.{countBelow}
@@ -33,14 +34,6 @@ opt (some a) f g = g a refl
 -- both pass
 pub both : {a b : Bool} → a ≡ true → b ≡ true → (a && b) ≡ true
 both p q = rw (p, q) refl
-
--- so the first does
-pub and-left : (a b : Bool) → (a && b) ≡ true → a ≡ true
-and-left a b e = and-true a b e .0
-
--- and the second
-pub and-right : (a b : Bool) → (a && b) ≡ true → b ≡ true
-and-right a b e = and-true a b e .1
 
 -- one of two passes
 pub or-cases : {C : Type 0} (a b : Bool) → (a || b) ≡ true → (a ≡ true → C) → (b ≡ true → C) → C
@@ -74,16 +67,6 @@ sum-zero f (suc n) h = omega (arith, sum-suc f n, sum-zero f n (λ k l. h k (ome
 
 -- ---- how many of the numbers below n pass
 
--- a test that passes counts 1
-pub yes-one : (b : Bool) → b ≡ true → oneIf b ≡ 1
-unfolding oneIf
-yes-one b e = rw e refl
-
--- one that does not counts 0
-pub no-zero : (b : Bool) → b ≡ false → oneIf b ≡ 0
-unfolding oneIf
-no-zero b e = rw e refl
-
 -- one number more
 pub count-suc : (t : ℕ → Bool) (n : ℕ) → countBelow t (suc n) ≡ countBelow t n + oneIf (t n)
 count-suc t n = rw add-one at (count-tab-more t (λ k. k) n)
@@ -100,18 +83,18 @@ count-same t u n h = count-sum t n ∙ sum-same (λ k. oneIf (t k)) (λ k. oneIf
 -- one more passes
 pub count-more : (t u : ℕ → Bool) (n k : ℕ) → k < n → t k ≡ false → u k ≡ true → ((j : ℕ) → j ≢ k → u j ≡ t j) → countBelow u n ≡ suc (countBelow t n)
 count-more t u n k l a b h =
-    let m = sum-more (λ j. oneIf (t j)) (λ j. oneIf (u j)) n k l (omega (arith, no-zero (t k) a, yes-one (u k) b)) (λ j q. ap oneIf (h j q)) in
+    let m = sum-more (λ j. oneIf (t j)) (λ j. oneIf (u j)) n k l (omega (arith, one-no (t k) a, one-yes (u k) b)) (λ j q. ap oneIf (h j q)) in
     omega (arith, count-sum t n, count-sum u n, m)
 
 -- all pass
 pub count-all : (t : ℕ → Bool) (n : ℕ) → ((k : ℕ) → k < n → t k ≡ true) → countBelow t n ≡ n
 count-all t zero h = count-none t (λ k. k)
-count-all t (suc n) h = omega (arith, count-suc t n, count-all t n (λ k l. h k (omega arith)), yes-one (t n) (h n (omega arith)))
+count-all t (suc n) h = omega (arith, count-suc t n, count-all t n (λ k l. h k (omega arith)), one-yes (t n) (h n (omega arith)))
 
 -- none does
 pub count-zero : (t : ℕ → Bool) (n : ℕ) → ((k : ℕ) → k < n → t k ≡ false) → countBelow t n ≡ 0
 count-zero t zero h = count-none t (λ k. k)
-count-zero t (suc n) h = omega (arith, count-suc t n, count-zero t n (λ k l. h k (omega arith)), no-zero (t n) (h n (omega arith)))
+count-zero t (suc n) h = omega (arith, count-suc t n, count-zero t n (λ k l. h k (omega arith)), one-no (t n) (h n (omega arith)))
 
 -- ---- tests of every number below a bound
 
@@ -261,13 +244,13 @@ byte-same t u (suc n) h =
 -- no bit
 pub byte-none : (n : ℕ) → byteOf (λ i. false) n ≡ 0
 byte-none zero = refl
-byte-none (suc n) = omega (arith, byte-none n, no-zero false refl)
+byte-none (suc n) = omega (arith, byte-none n, one-no false refl)
 
 -- one bit more
 pub byte-more : (t u : ℕ → Bool) (n i : ℕ) → i < n → t i ≡ false → u i ≡ true → ((j : ℕ) → j ≢ i → u j ≡ t j) → byteOf u n ≡ byteOf t n + 2 ^ i
 byte-more t u zero i l a b h = absurd (not-suc-le-zero l)
 byte-more t u (suc n) zero l a b h =
-    omega (arith, no-zero (t 0) a, yes-one (u 0) b, byte-same (λ i. u (suc i)) (λ i. t (suc i)) n (λ i m. h (suc i) (omega arith)))
+    omega (arith, one-no (t 0) a, one-yes (u 0) b, byte-same (λ i. u (suc i)) (λ i. t (suc i)) n (λ i m. h (suc i) (omega arith)))
 byte-more t u (suc n) (suc i) l a b h =
     omega (arith, ap oneIf (h zero (omega arith)), byte-more (λ j. t (suc j)) (λ j. u (suc j)) n i (omega arith) a b (λ j q. h (suc j) (omega arith)), pow-succ' 2 i)
 

@@ -13,6 +13,7 @@ use lib.Dec.{eqb, ltb}
 use lib.IntN.{ℤ}
 use lib.ListN.{length, getD}
 use Rattle.integers.specs.Lists.{firstFrom}
+use Rattle.integers.proofs.Lists.{and-right, and-false}
 use Rattle.nest.specs.declared.LoopNest.{LoopNest}
 use Rattle.nest.specs.Nest.{part, padded, depthOf, maxDepth}
 use Rattle.nest.specs.Points.{pointsOf, rank, source}
@@ -22,16 +23,11 @@ use Rattle.nest.proofs.PointLaws.{source-found, source-none}
 use Rattle.execution.specs.Rules.{every, better, least, View, stepIn, waits, there}
 use Rattle.execution.specs.Run.{bit}
 use Rattle.execution.specs.Entry.{viewIn, rankOr, readyFrom}
-use Rattle.execution.proofs.Base.{opt, every-refute, better-less, better-not, least-some, and-right}
+use Rattle.execution.proofs.Base.{opt, every-refute, better-less, better-not, least-some}
 use Rattle.execution.proofs.BitLaws.{every-more, least-start, least-more}
 use Rattle.execution.proofs.RuleLaws.{there-own, there-other}
 
 -- ---- the iteration that a processor takes
-
--- nothing is both
-and-none : (b : Bool) → (b && false) ≡ false
-and-none true = refl
-and-none false = refl
 
 -- the first of k and m more that passes a test: k, or the first of those behind it
 first-step : (t : ℕ → Bool) (m k : ℕ) (b : Bool) → t k ≡ b → firstFrom t (suc m) k ≡ elim b as (λ _. ℕ) [ true ↦ k | false ↦ firstFrom t m (suc k) ]
@@ -78,7 +74,7 @@ module _ (steps processors done : List ℕ) (n p : ℕ) where
 
     -- it is on another processor
     pub kept-elsewhere : getD processors k 0 ≢ p → Better best
-    kept-elsewhere g = kept (rw (ne-eqb (getD processors k 0) p g) (and-none (not (seen .done k))))
+    kept-elsewhere g = kept (rw (ne-eqb (getD processors k 0) p g) (and-false (not (seen .done k))))
 
     -- it waits
     waiting : getD done k 0 ≡ 0 → getD processors k 0 ≡ p → waits seen p k ≡ true
@@ -123,7 +119,7 @@ module _ (steps processors done : List ℕ) (n p : ℕ) where
   -- one that is elsewhere changes nothing
   taken-elsewhere : (k : ℕ) → here k ≡ false → takenOf (suc k) ≡ takenOf k
   unfolding least better
-  taken-elsewhere k h = rw (h, and-none (not (seen .done k))) refl
+  taken-elsewhere k h = rw (h, and-false (not (seen .done k))) refl
 
   -- nor do those before the next one that is here
   pub skipped : (m k : ℕ) → (k ≤ firstFrom here m k) × (firstFrom here m k ≤ k + m) × (takenOf (firstFrom here m k) ≡ takenOf k)

@@ -19,13 +19,14 @@ use Rattle.nest.specs.Refusals.{refusal, orElse, shortBuffer, noRoom}
 use Rattle.nest.specs.Sources.{sourceRank}
 use Rattle.nest.proofs.Entries.{orElse-second, long-enough, none-short}
 use Rattle.mapping.specs.GroupNumbers.{oneIf}
+use Rattle.mapping.proofs.Counting.{one-yes, one-no}
 use Rattle.sequential.specs.Sequential.{Rule, sourceValue, valueOf, sequential}
 use Rattle.sequential.proofs.LoopLaws.{loop-length, loop-value}
 use Rattle.execution.specs.Rules.{Move, Effect, refuse, iteration, message, answer, Layout, effect}
 use Rattle.execution.specs.Machine.{Machine, freshMachine, machineAfter, machineView, machineNext, machineRun, machineAnswers}
 use Rattle.execution.specs.Run.{State, bit, stateView, moveRefusal, stateRefusal, moveEffect, moveAnswer, after, moveAfter, run, answers}
 use Rattle.execution.specs.Claim.{Fresh, Holds}
-use Rattle.execution.proofs.Base.{eq?, yes-one, no-zero, byteOf, byte-same, byte-none, byte-more, bit-byte, bit-beyond}
+use Rattle.execution.proofs.Base.{eq?, byteOf, byte-same, byte-none, byte-more, bit-byte, bit-beyond}
 use Rattle.execution.proofs.RuleLaws.{Agree, effect-same, move-rules}
 use Rattle.execution.proofs.MachineLaws.{Ordered, Sound, Valid, effect-valid, next-sound}
 
@@ -115,7 +116,7 @@ module _ {Val : Type 0} (R : Rule Val) (s : LoopNest) (ok : refusal s ≡ 0) (L 
   -- it holds at the start
   pub fresh-kept : Kept R s st₀ freshMachine st₀
   fresh-kept = record {
-    done = λ k l. fr .none-done k l ∙ sym (no-zero false refl);
+    done = λ k l. fr .none-done k l ∙ sym (one-no false refl);
     delivered = λ k l. fr .none-delivered k l ∙ sym (byte-none (countOf s));
     value = λ k l e d. clash e refl;
     missing = λ k l e d. refl;
@@ -130,8 +131,8 @@ module _ {Val : Type 0} (R : Rule Val) (s : LoopNest) (ok : refusal s ≡ 0) (L 
   -- what the invariant says in the claim's words
   pub kept-holds : (b : Machine) (st : State Val) → Sound s M b → Kept R s st₀ b st → Holds R s st₀ b st
   kept-holds b st sd h = record {
-    done = λ k l e. h .done k l ∙ yes-one (b .computed k) e;
-    not-done = λ k l e. h .done k l ∙ no-zero (b .computed k) e;
+    done = λ k l e. h .done k l ∙ one-yes (b .computed k) e;
+    not-done = λ k l e. h .done k l ∙ one-no (b .computed k) e;
     delivered = λ k i l. ap (bit i) (h .delivered k l) ∙ each k i;
     value = h .value;
     missing = h .missing;
@@ -187,7 +188,7 @@ module _ {Val : Type 0} (R : Rule Val) (s : LoopNest) (ok : refusal s ≡ 0) (L 
     done = λ c l. eq? c k
         (λ q.
         ap (λ z. getD (set (st .done) k 1) z 0) q ∙ getD-set-same (st .done) k 1 0 (let r = fr .done-room in let e = h .done-length in omega (arith, w .0))
-        ∙ sym (yes-one (eqb c k || b .computed c) (ap (λ t. t || b .computed c) (eq-eqb c k q))))
+        ∙ sym (one-yes (eqb c k || b .computed c) (ap (λ t. t || b .computed c) (eq-eqb c k q))))
         (λ q. getD-set-other (st .done) k c 1 0 q ∙ h .done c l ∙ ap (λ t. oneIf (t || b .computed c)) (sym (ne-eqb c k q)));
     delivered = h .delivered;
     value = λ c l e d. eq? c k

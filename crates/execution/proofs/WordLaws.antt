@@ -11,7 +11,7 @@ use native.Mathlib.Omega.{arith}
 use borrow.Author.Tests.{eqb-true, eq-eqb, not-true}
 use lib.Dec.{eqb}
 use lib.ListN.{length}
-use Rattle.integers.proofs.Lists.{split, clash}
+use Rattle.integers.proofs.Lists.{split, clash, and-left, and-right}
 use Rattle.nest.specs.declared.LoopNest.{LoopNest}
 use Rattle.nest.specs.Nest.{toℕ, countOf}
 use Rattle.nest.specs.Points.{pointsOf}
@@ -22,7 +22,7 @@ use Rattle.mapping.proofs.Theorems.{message-true, true-message}
 use Rattle.execution.specs.Rules.{every, Move, compute, deliver, Effect, refuse, iteration, message, answer, Layout, View, stepIn, processorIn, waits, there, sourceDone, taking, effect, ready}
 use Rattle.execution.specs.Machine.{Machine, machineAfter, machineView, machineNext, machineRun, machineTold}
 use Rattle.execution.specs.Words.{Takes, Present, Absent, Sent, Idle, SourceAbsent, OutOfTurn, Says, no-processor, idle-processor, waiting, computes, no-place, out-of-turn, delivers, ruleOrder, SaysList, no-move, next-move}
-use Rattle.execution.proofs.Base.{eq?, opt, both, and-left, and-right, every-true, every-false, every-intro, every-refute, least-none, least-some, least-empty, least-unique}
+use Rattle.execution.proofs.Base.{eq?, opt, both, every-true, every-false, every-intro, every-refute, least-none, least-some, least-empty, least-unique}
 use Rattle.execution.proofs.RuleLaws.{there-own, there-other, taking-none, taking-ready, taking-waits, delivering-ready, delivering-refused, taken, compute-there, compute-nowhere, deliver-there, deliver-nowhere, by-move}
 
 module _ (s : LoopNest) (v : View) where

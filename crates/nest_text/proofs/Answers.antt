@@ -18,7 +18,8 @@ use Rattle.nest_text.specs.Text.{textOf, headerWidths, shapesOf, fits, i
 use Rattle.nest_text.specs.Text.{headerNumbers, headed, headerOf}
 use Rattle.nest_text.specs.Text.{restOf, isShaped, bodyOf, malformedUnless, readRefusal, writeRefusal, writeOrder}
 use Rattle.nest_text.specs.Form.{FirstLine, LineMalformed, LineMeets, Shaped, RestMalformed, NestMeets, readOrder}
-use Rattle.nest_text.proofs.LineBack.{LineRead, numbers-length, headed-line, numbers-line, rest-line}
+use Rattle.nest_text.proofs.LineLaws.{numbers-length}
+use Rattle.nest_text.proofs.LineBack.{LineRead, headed-line, numbers-line, rest-line}
 use Rattle.nest_text.proofs.LineBack.{read-begins, begins-read, shapes-iff}
 use Rattle.nest_text.proofs.ShapeLaws.{header-line, header-listed}
 use Rattle.nest_text.proofs.ReadLaws.{form-kept, header-checked}

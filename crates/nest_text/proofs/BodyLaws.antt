@@ -13,16 +13,17 @@ use lib.ListN.{length, getD, take, drop, length-append, length-take, length-drop
 use lib.ListN.{List·getD-eq-default}
 use lib.Seq.{drop-cons, drop-drop, drop-length, getD-drop, getD-take, take-suc, take-all, length-take-le}
 use Rattle.integers.specs.Lists.{any, tab}
-use Rattle.integers.proofs.Lists.{length-tab, and-true, split}
+use Rattle.integers.proofs.Lists.{and-true, split}
 use Rattle.nest.specs.declared.LoopNest.{LoopNest}
 use Rattle.nest.specs.Nest.{Limit, padded, nestOf, emptyNest, maxDepth, maxDependences}
 use Rattle.nest_text.specs.declared.reader.Line.{Line}
 use Rattle.nest_text.specs.declared.reader.Body.{Body}
 use Rattle.nest_text.specs.Fields.{Bytes, columns, newline}
-use Rattle.nest_text.specs.Text.{at, isMalformed, numberOf, fieldAt, isLine, numbersOf, behind, areLines}
+use Rattle.nest_text.specs.Text.{at, isMalformed, fieldAt, isLine, numbersOf, behind, areLines}
 use Rattle.nest_text.specs.Text.{lineNumbers, widths, shapes, fits, nestFrom}
 use Rattle.nest_text.specs.Reader.{maxFields, lineOf, withLine, filled, bodyRead}
 use Rattle.nest_text.proofs.FieldLaws.{rest-part}
+use Rattle.nest_text.proofs.LineLaws.{numbers-length}
 use Rattle.nest_text.proofs.ShapeLaws.{shapes-one, shapes-first}
 use Rattle.nest_text.proofs.RowLaws.{width-vector, width-last, limits-line, time-line, dependence-line}
 use Rattle.nest_text.proofs.RowLaws.{last-line}
@@ -66,11 +67,6 @@ module _ (k : ℕ) (bs : Bytes) where
 
 -- ---- lines in general
 
--- a line of k fields has k numbers
-pub length-numbers : (k : ℕ) (bs : Bytes) → length (numbersOf k bs) ≡ k
-unfolding numbersOf
-length-numbers k bs = length-tab (λ i. numberOf (fieldAt bs i)) k
-
 -- as many lines as widths
 pub length-lines : (ks : List ℕ) (bs : Bytes) → length (lineNumbers ks bs) ≡ length ks
 unfolding lineNumbers
@@ -81,7 +77,7 @@ length-lines (k ∷ ks) bs = ap suc (length-lines ks (behind k bs))
 pub row-length : (ks : List ℕ) (bs : Bytes) (j : ℕ) → length (getD (lineNumbers ks bs) j []) ≡ getD ks j 0
 unfolding lineNumbers
 row-length [] bs j = refl
-row-length (k ∷ ks) bs zero = length-numbers k bs
+row-length (k ∷ ks) bs zero = numbers-length k bs
 row-length (k ∷ ks) bs (suc j) = row-length ks (behind k bs) j
 
 -- the first line is in form
@@ -234,7 +230,7 @@ module _ (n m : ℕ) (c : ℤ) (bs : Bytes) (low : n ≤ maxDepth) (few : m ≤ 
           held =
               f
               ∙ (ap (λ (x : LoopNest). withLine n m x i (padded maxFields (numbersOf k (drop p bs)))) (r .held)
-              ∙ (sym (line-placed n m c (take i all) (numbersOf k (drop p bs)) i (length-take-le i all (rw long (omega arith))) low few (length-numbers k (drop p bs)) h (narrow i))
+              ∙ (sym (line-placed n m c (take i all) (numbersOf k (drop p bs)) i (length-take-le i all (rw long (omega arith))) low few (numbers-length k (drop p bs)) h (narrow i))
               ∙ ap (filled n m c) (sym more)));
         }
 

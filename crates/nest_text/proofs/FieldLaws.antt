@@ -17,6 +17,7 @@ use lib.Seq.{set-at, drop-drop}
 use mir.Syntax.{w64}
 use mir.Val.{toZ, ofZ}
 use mir.Facts.{toZ-ofZ}
+use Rattle.integers.proofs.Lists.{and-left}
 use Rattle.nest_text.specs.Fields.{Bytes, columns, space, minus, zeroDigit, sevenDigits, isDigit}
 use Rattle.nest_text.specs.Fields.{blanksOf, allDigits, valueOf, digitsTo, numeralOf, fieldOf}
 use Rattle.nest_text.specs.Stored.{InColumns}
@@ -123,11 +124,6 @@ unfolding digitsTo
 digits-last r i acc h =
     let e : r % 10 ≡ r = omega arith in
     rw (add-one i, lt-ltb r 10 h, e) refl
-
--- the first of two tests that pass
-and-left : (a b : Bool) → (a && b) ≡ true → a ≡ true
-and-left true b h = refl
-and-left false b h = h
 
 -- a negative number that six columns hold
 pub within-neg : (n : ℕ) → InColumns (negsuc n) → n < 99999

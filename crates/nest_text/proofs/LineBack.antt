@@ -15,7 +15,7 @@ use lib.IntN.{ℤ, pos}
 use lib.ListN.{length, getD, take, drop, length-append, length-drop, take-append-drop, List·getD-eq-default}
 use lib.Seq.{take-at, drop-at, getD-at, drop-append-add, drop-cons, take-add, length-take-le}
 use Rattle.integers.specs.Lists.{any, tab}
-use Rattle.integers.proofs.Lists.{clash, split, and-true, length-tab, any-tab-each, any-tab-none, tab-list, flatMap-append, flatMap-one}
+use Rattle.integers.proofs.Lists.{clash, split, and-true, any-tab-each, any-tab-none, tab-list, flatMap-append, flatMap-one}
 use Rattle.nest_text.specs.declared.fields.Field.{Field}
 use Rattle.nest_text.specs.declared.fields.Field.the-variants.{Number, Malformed}
 use Rattle.nest_text.specs.Fields.{columns, Bytes, newline, blanksOf, allDigits, digitsOf, signedOf, readOf, fieldOf}
@@ -26,6 +26,7 @@ use Rattle.nest_text.specs.Stored.{InColumns}
 use Rattle.nest_text.specs.Form.{Begins, Consists, Shaped}
 use Rattle.nest_text.proofs.FieldBack.{read-written}
 use Rattle.nest_text.proofs.Numerals.{field-iff, field-words}
+use Rattle.nest_text.proofs.LineLaws.{numbers-length}
 use Rattle.nest_text.proofs.WriteLaws.{field-length, line-cons}
 use Rattle.nest_text.proofs.ShapeLaws.{fitting-fits, fitting-listed, listed-shape, header-line, listed-header}
 
@@ -156,11 +157,6 @@ line-again k bs h =
       sym (ap₂ (λ (x y : Bytes). (x ++ (newline ∷ [])) ++ y) f e ∙ append-assoc (take (columns * k) bs) (newline ∷ []) (drop (suc (columns * k)) bs)
           ∙ ap (λ (b : ℕ). take (columns * k) bs ++ (b ∷ drop (suc (columns * k)) bs)) (sym ten) ∙ ap (λ l. take (columns * k) bs ++ l) (sym (drop-cons bs (columns * k) 0 room)) ∙ take-append-drop (columns * k) bs),
     )
-
--- a line of k fields has k numbers
-pub numbers-length : (k : ℕ) (bs : Bytes) → length (numbersOf k bs) ≡ k
-unfolding numbersOf
-numbers-length k bs = length-tab (λ i. numberOf (fieldAt bs i)) k
 
 -- ---- a line has one number of fields alone
 

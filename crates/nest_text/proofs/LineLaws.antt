@@ -1,7 +1,7 @@
 -- Laws of one line, a field at a time, and of the lines that follow one another.
 -- Assumes nothing.
 use mathlib.Core.Path.{_≡_, refl, ap, _∙_}
-use mathlib.Core.Bool.{Bool, true, false, not, _&&_}
+use mathlib.Core.Bool.{true, false, not}
 use mathlib.Core.List.{List, _++_}
 use Prim.Native.Nat.{ℕ, _+_, _*_, _-_, _≤_, _<_}
 use native.Mathlib.Omega.{arith}
@@ -10,7 +10,7 @@ use lib.IntN.{ℤ, pos}
 use lib.ListN.{length, getD, set, take, drop, replicate, List·getD-eq-default}
 use lib.Seq.{take-add, take-take, drop-at, length-take-le}
 use Rattle.integers.specs.Lists.{any, tab}
-use Rattle.integers.proofs.Lists.{tab-more, length-tab, any-tab-more, any-tab-found}
+use Rattle.integers.proofs.Lists.{and-false, tab-more, length-tab, any-tab-more, any-tab-found}
 use Rattle.nest.specs.Nest.{padded}
 use Rattle.nest_text.specs.declared.fields.Field.the-variants.{Number, Malformed}
 use Rattle.nest_text.specs.declared.reader.Line.{Line}
@@ -23,10 +23,10 @@ use Rattle.nest.proofs.Padding.{padded-set}
 abbrev pub noLine : Line
 noLine = record { ok = false; numbers = replicate maxFields (pos 0) }
 
--- a test that fails behind another
-and-false : (a : Bool) → (a && false) ≡ false
-and-false true = refl
-and-false false = refl
+-- a line of k fields has k numbers
+pub numbers-length : (k : ℕ) (bs : Bytes) → length (numbersOf k bs) ≡ k
+unfolding numbersOf
+numbers-length k bs = length-tab (λ i. numberOf (fieldAt bs i)) k
 
 -- the first i fields of the line are numbers, and these are they
 abbrev pub LineRead : Bytes → ℕ → ℕ → List ℤ → Type 0

@@ -30,9 +30,10 @@ use Rattle.nest.proofs.Spans.{Spans, spans, HeaderSpans, header-spans}
 use Rattle.nest.proofs.Refused.{accepted}
 use Rattle.nest_text.proofs.TextLength.{shapeLine, shape-columns, limits-columns, time-columns}
 use Rattle.nest_text.proofs.TextLength.{dependence-columns, boundary-columns, weight-columns}
+use Rattle.nest_text.proofs.LineLaws.{numbers-length}
 use Rattle.nest_text.proofs.LineBack.{headed-line, numbers-line, rest-line}
 use Rattle.nest_text.proofs.LineBack.{AllInColumns, LinesInColumns, LineRead, all-tab, line-read, lines-read}
-use Rattle.nest_text.proofs.LineBack.{line-again, lines-again, lines-widths, numbers-length, consists-written}
+use Rattle.nest_text.proofs.LineBack.{line-again, lines-again, lines-widths, consists-written}
 use Rattle.nest_text.proofs.LineBack.{written-consists}
 use Rattle.nest_text.proofs.ShapeLaws.{fitting-fits, shapes-one, shapes-first, header-line}
 use Rattle.nest_text.proofs.ShapeLaws.{header-numbers}
