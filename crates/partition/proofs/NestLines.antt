@@ -22,7 +22,7 @@ use Rattle.nest.specs.Points.{pointsOf, point}
 use Rattle.nest.specs.Refusals.{refusal}
 use Rattle.nest.proofs.Padding.{at-padded, length-padded}
 use Rattle.nest.proofs.PointLaws.{point-length}
-use Rattle.nest.proofs.Words.{part-length}
+use Rattle.nest.proofs.Words.{part-length, part-at}
 use Rattle.sources.specs.Keys.{key, keysOf, sourceIn, Searchable}
 use Rattle.sources.proofs.Cursors.{key-most, keys-most, keys-length}
 use Rattle.sources.proofs.KeyOrder.{key-minus, key-injective}
@@ -33,7 +33,7 @@ use Rattle.grouping.proofs.Vectors.{comp, same-components, length-minus}
 use Rattle.classes.proofs.Lined.{one-line}
 use Rattle.partition.specs.Lines.{Apart}
 use Rattle.partition.proofs.LineLaws.{shortest-along}
-use Rattle.partition.proofs.NestVectors.{depth-few, padded-is, part-at}
+use Rattle.partition.proofs.NestVectors.{depth-few, padded-is}
 use Rattle.partition.proofs.Nests.{time-length}
 
 module _ (s : LoopNest) (ok : refusal s ≡ 0) (P : Vector) (time : P ≡ padded 4 (timeOf s)) (distance : ℤ) (A : Apart P (depthOf s) distance) where

@@ -2,36 +2,24 @@
 -- two iterations are in one group, and so in one block, exactly if their projections are equal.
 -- Assumes nothing.
 use mathlib.Core.Path.{_≡_, refl, sym, ap, ap₂, _∙_}
-use mathlib.Core.Bool.{Bool, true, false, not}
 use mathlib.Core.Logic.{_↔_}
-use mathlib.Core.List.{List, [], _∷_, List·Memᴰ, List·Memᴰ·head, List·Memᴰ·tail}
+use mathlib.Core.List.{List, [], _∷_}
 use Prim.Native.Nat.{ℕ, _<_}
 use native.Mathlib.Nat.{suc-ne-zero}
-use lib.Dec.{T}
 use lib.IntN.{ℤ}
 use lib.ListN.{length}
-use Rattle.integers.proofs.Lists.{T-true, clash}
-use Rattle.integers.specs.Vector.{Vector, isZeroV}
+use Rattle.integers.specs.Vector.{Vector}
 use Rattle.nest.specs.declared.LoopNest.{LoopNest}
 use Rattle.nest.specs.Nest.{countOf, timeOf, dependencesOf}
 use Rattle.nest.specs.Points.{pointsOf, point}
 use Rattle.nest.specs.Refusals.{refusal, dependence}
 use Rattle.grouping.specs.Projection.{projection}
-use Rattle.grouping.specs.Grouping.{shifted, remainder, groupingVector, extend, chosenVectors, chosenCount, Zero, Frame, frame, directions, SameClass, Group}
+use Rattle.grouping.specs.Grouping.{shifted, groupingVector, extend, chosenVectors, chosenCount, Zero, Frame, frame, directions, SameClass, Group}
 use Rattle.partition.specs.Partition.{frameOf, chosenOf, classOf, groupAt, blockAt}
 use Rattle.grouping.proofs.Vectors.{→isZeroV}
 use Rattle.grouping.proofs.Chosen.{no-grouping-iff}
+use Rattle.grouping.proofs.Frames.{extend-none}
 use Rattle.partition.proofs.Theorems.{no-grouping-vector, block-iff, group-class, along-length, class-number-iff}
-
--- no vector with a zero projection is chosen
-extend-none : (P : Vector) (ds : List Vector) → ((d : Vector) → List·Memᴰ d ds → T (isZeroV (projection P d))) → extend P [] ds ≡ []
-unfolding extend remainder
-extend-none P [] h = refl
-extend-none P (d ∷ ds) h = go (isZeroV (projection P d)) (T-true (h d (List·Memᴰ·head refl))) (extend-none P ds (λ x m. h x (List·Memᴰ·tail m)))
-  where
-    go : (b : Bool) → b ≡ true → extend P [] ds ≡ [] → _≡_ {A = List Vector} (elim (not b) as (λ _. List Vector) [ true ↦ extend P (d ∷ []) ds | false ↦ extend P [] ds ]) []
-    go true e h = h
-    go false e h = clash e refl
 
 -- a list of length 0 has no entry
 no-entry : {A : Type 0} (xs : List A) → length xs ≡ 0 → xs ≡ []

@@ -7,13 +7,13 @@ use native.Mathlib.Omega.{arith}
 use lib.IntN.{ℤ, pos, natAbs, _+ℤ_, _*ℤ_}
 use lib.ListN.{length, getD, set, replicate}
 use Rattle.integers.specs.Lists.{tab}
-use Rattle.integers.proofs.Lists.{getD-tab, tab-more, length-tab, map-tab}
+use Rattle.integers.proofs.Lists.{tab-more, length-tab, map-tab}
 use Rattle.integers.specs.Vector.{AllWithin}
 use Rattle.integers.proofs.Vector.{all-each}
 use Rattle.nest.specs.declared.LoopNest.{LoopNest}
 use Rattle.nest.specs.Nest.{part, padded, depthOf, countOf, dependenceAt, dependencesOf, maxDepth, maxDependences, maxLimit}
 use Rattle.nest.proofs.Padding.{padded-none, padded-set}
-use Rattle.nest.proofs.Words.{part-length}
+use Rattle.nest.proofs.Words.{part-length, part-at}
 use Rattle.sources.specs.Keys.{base, keyFrom, key, maxKey, distancesOf}
 use Rattle.sources.proofs.KeyOrder.{key-size, key-snoc}
 
@@ -33,11 +33,6 @@ key-none xs from = refl
 pub power-most : (k : ℕ) → k ≤ maxDepth → base ^ k ≤ maxKey
 power-most k h = NatL.pow-le-pow-right {n = base} (omega arith) h
 
--- a component of a part of an array
-part-entry : (xs : List ℤ) (from i k : ℕ) → k < i → getD (part xs from i) k (pos 0) ≡ getD xs (from + k) (pos 0)
-unfolding part
-part-entry xs from i k h = getD-tab (λ j. getD xs (from + j) (pos 0)) i k (pos 0) h
-
 -- the key of the first i of n small components is small
 pub key-part-size : (xs : List ℤ) (from n i : ℕ) → n ≤ maxDepth → i ≤ n → ((k : ℕ) → k < n → natAbs (getD xs (from + k) (pos 0)) ≤ maxLimit) → natAbs (key (part xs from i)) ≤ maxKey
 key-part-size xs from n i m l h =
@@ -49,7 +44,7 @@ key-part-size xs from n i m l h =
   where
     -- each of them
     entry : (k : ℕ) → k < i → natAbs (getD (part xs from i) k (pos 0)) ≤ maxLimit
-    entry k b = rw (part-entry xs from i k b) (h k (omega arith))
+    entry k b = rw (part-at xs from i k b) (h k (omega arith))
 
 -- ---- the keys of the dependences in an array
 

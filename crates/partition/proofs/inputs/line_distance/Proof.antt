@@ -13,11 +13,10 @@ use Rattle.integers.proofs.Machine.{reads}
 use Rattle.integers.specs.Vector.{Vector, AllWithin}
 use Rattle.integers.proofs.Vector.{all-each, getD-within}
 use Rattle.nest.specs.Nest.{part, maxComponent}
-use Rattle.nest.proofs.Words.{part-length}
+use Rattle.nest.proofs.Words.{part-length, part-at}
 use Rattle.sources.specs.Keys.{base, key, maxKey}
 use Rattle.sources.proofs.Arrays.{power-most}
 use Rattle.sources.proofs.KeyOrder.{key-size}
-use Rattle.partition.proofs.NestVectors.{part-at}
 use Rattle.partition.proofs.inputs.line_distance.Statement.{statement}
 use Rattle.partition.proofs.inputs.line_distance.Tie as tie
 
