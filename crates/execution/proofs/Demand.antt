@@ -14,7 +14,8 @@ use Rattle.nest.specs.Refusals.{refusal}
 use Rattle.nest.proofs.Entries.{made-table}
 use Rattle.nest.proofs.PointLaws.{source-smaller}
 use Rattle.partition.specs.Partition.{stepsOf}
-use Rattle.partition.proofs.Theorems.{later-step-source, steps-length}
+use Rattle.partition.proofs.Nests.{steps-length}
+use Rattle.partition.proofs.Theorems.{later-step-source}
 use Rattle.mapping.specs.Mapping.{processorsOf, isMessage, messageCount}
 use Rattle.mapping.proofs.Theorems.{processors-length, processors-below}
 use Rattle.sequential.specs.Sequential.{Rule, sequential, ruleOf, valuesOf}
@@ -34,7 +35,7 @@ use Rattle.execution.proofs.TableLaws.{SameLayout, Kept, begins-with, f
 -- it is causal: steps fall along sources, and processors are below 2^c
 pub causal : (s : LoopNest) → refusal s ≡ 0 → Causal s (layoutOf s)
 causal s ok = record {
-  steps-each = steps-length s ok;
+  steps-each = steps-length s;
   processors-each = processors-length s;
   sooner = λ k i j hk hi q. later-step-source s ok i hi j k hk q;
   housed = λ k hk. processors-below s k hk;

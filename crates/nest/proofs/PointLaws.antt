@@ -22,9 +22,10 @@ use Rattle.nest.specs.Sources.{sourceRank}
 use Rattle.nest.specs.Refusals.{refusal, holds, crossed, tooManyPoints, dependence}
 use Rattle.nest.proofs.Accepted.{not-crossed, some-product}
 use Rattle.nest.proofs.Order.{point-count, point-inside, points-increase, rank-of-point}
+use Rattle.nest.proofs.Lengths.{limits-length, dependence-length}
 use Rattle.nest.proofs.Padding.{part-padded, part-whole}
 use Rattle.nest.proofs.Refused.{accepted}
-use Rattle.nest.proofs.Sources.{inside-length, limits-length, dependence-length, source-length, source-earlier, index-size}
+use Rattle.nest.proofs.Sources.{inside-length, source-length, source-earlier, index-size}
 use Rattle.nest.proofs.Words.{part-length}
 
 -- ---- how many there are

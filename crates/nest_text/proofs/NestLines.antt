@@ -10,12 +10,14 @@ use lib.ListN.{length, getD, take, drop, replicate, length-append, length-map, l
 use lib.ListN.{List·getD-map}
 use lib.Seq.{take-at, drop-at, getD-at}
 use Rattle.integers.specs.Lists.{tab}
-use Rattle.integers.proofs.Lists.{length-tab, tab-list, map-tab}
+use Rattle.integers.proofs.Lists.{tab-list, map-tab}
 use Rattle.nest.specs.declared.LoopNest.{LoopNest}
 use Rattle.nest.specs.Nest.{Limit, part, depthOf, countOf, limitAt, limitsOf, timeOf, dependenceAt, dependencesOf}
 use Rattle.nest.specs.Nest.{weightsOf, nestOf, cleared, maxDepth}
 use Rattle.nest_text.specs.Text.{linesOf, widths, at, nestFrom}
+use Rattle.nest.proofs.Lengths.{limits-length, time-length, dependences-count, weights-length}
 use Rattle.nest.proofs.Places.{Fitting, made-limits, made-time, made-dependences, made-weights, made-cleared}
+use Rattle.nest.proofs.Words.{part-length}
 
 -- the numbers of lines
 abbrev pub Lines : Type 0
@@ -71,8 +73,8 @@ pub nest-again : (s : LoopNest) → nestFrom (depthOf s) (countOf s) (s .cube) (
 unfolding cleared
 nest-again s =
     from-lines (depthOf s) (countOf s) (s .cube) (map pair (limitsOf s)) (timeOf s) (dependencesOf s) (s .boundary ∷ weightsOf s)
-    (length-map (limitsOf s) pair ∙ (unfold limitsOf in length-tab (limitAt (s .lower) (s .upper)) (depthOf s)))
-    (unfold dependencesOf in length-tab (dependenceAt (s .dependences) (depthOf s)) (countOf s))
+    (length-map (limitsOf s) pair ∙ limits-length s)
+    (dependences-count s)
     ∙ ap (λ l. nestOf (s .cube) l (timeOf s) (dependencesOf s) (s .boundary) (weightsOf s)) (limits-again (limitsOf s))
 
 -- ---- the numbers of fields of the lines of a nest
@@ -94,11 +96,11 @@ body-widths s =
     widths-append (map pair (limitsOf s)) (timeOf s ∷ (dependencesOf s ++ ((s .boundary ∷ weightsOf s) ∷ [])))
     ∙ ap₂ (λ (a b : List ℕ). a ++ b)
     (ap (map length) (map-tab pair (limitAt (s .lower) (s .upper)) (depthOf s)) ∙ same-widths (λ k. pair (limitAt (s .lower) (s .upper) k)) 2 (depthOf s) (λ i l. refl))
-    (ap₂ (λ (a : ℕ) (b : List ℕ). a ∷ b) (length-tab (λ k. getD (s .time) (0 + k) (pos 0)) (depthOf s))
+    (ap₂ (λ (a : ℕ) (b : List ℕ). a ∷ b) (time-length s)
     (widths-append (dependencesOf s) ((s .boundary ∷ weightsOf s) ∷ [])
     ∙ ap₂ (λ (a : List ℕ) (b : ℕ). a ++ (b ∷ []))
-    (same-widths (dependenceAt (s .dependences) (depthOf s)) (depthOf s) (countOf s) (λ i l. length-tab (λ k. getD (s .dependences) (i * maxDepth + k) (pos 0)) (depthOf s)))
-    (let w = length-tab (λ k. getD (s .weights) (0 + k) (pos 0)) (countOf s) in omega (arith, w))))
+    (same-widths (dependenceAt (s .dependences) (depthOf s)) (depthOf s) (countOf s) (λ i l. part-length (s .dependences) (i * maxDepth) (depthOf s)))
+    (let w = weights-length s in omega (arith, w))))
 
 -- ---- lines with the numbers of fields that a text has
 

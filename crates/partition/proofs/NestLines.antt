@@ -21,6 +21,7 @@ use Rattle.nest.specs.Nest.{part, padded, depthOf, timeOf, maxLimit, maxCompone
 use Rattle.nest.specs.Points.{pointsOf, point}
 use Rattle.nest.specs.Refusals.{refusal}
 use Rattle.nest.proofs.Padding.{at-padded, length-padded}
+use Rattle.nest.proofs.Lengths.{time-length}
 use Rattle.nest.proofs.PointLaws.{point-length}
 use Rattle.nest.proofs.Words.{part-length, part-at}
 use Rattle.sources.specs.Keys.{key, keysOf, sourceIn, Searchable}
@@ -34,7 +35,6 @@ use Rattle.classes.proofs.Lined.{one-line}
 use Rattle.partition.specs.Lines.{Apart}
 use Rattle.partition.proofs.LineLaws.{shortest-along}
 use Rattle.partition.proofs.NestVectors.{depth-few, padded-is}
-use Rattle.partition.proofs.Nests.{time-length}
 
 module _ (s : LoopNest) (ok : refusal s ≡ 0) (P : Vector) (time : P ≡ padded 4 (timeOf s)) (distance : ℤ) (A : Apart P (depthOf s) distance) where
   -- the depth

@@ -18,7 +18,8 @@ use Rattle.nest_text.specs.Text.{line}
 use Rattle.nest_text.specs.Stored.{Stored}
 use Rattle.nest_text.proofs.WriteLaws.{stored-as, stored-length}
 use Rattle.partition.specs.Partition.{stepsOf, blocksOf}
-use Rattle.partition.proofs.Theorems.{steps-length, blocks-length, step-few}
+use Rattle.partition.proofs.Nests.{steps-length}
+use Rattle.partition.proofs.Theorems.{blocks-length, step-few}
 use Rattle.mapping.specs.Mapping.{processorsOf}
 use Rattle.mapping.proofs.Theorems.{processors-length}
 use Rattle.sequential.specs.Sequential.{valuesOf}
@@ -79,7 +80,7 @@ module _ (s : LoopNest) (ok : refusal s ≡ 0) (n : ℕ) (count : n ≡ length (
 
   -- and each table starts with what is planned
   steps-are : a′ ≡ stepsOf s ++ drop n a
-  steps-are = P .1 .0 ∙ made-table (r .refusal) n (stepsOf s) a zero (steps-length s ok ∙ sym count)
+  steps-are = P .1 .0 ∙ made-table (r .refusal) n (stepsOf s) a zero (steps-length s ∙ sym count)
 
   blocks-are : b′ ≡ blocksOf s ++ drop n b
   blocks-are = P .1 .1 .0 ∙ made-table (r .refusal) n (blocksOf s) b zero (blocks-length s ok ∙ sym count)
@@ -93,7 +94,7 @@ module _ (s : LoopNest) (ok : refusal s ≡ 0) (n : ℕ) (count : n ≡ length (
   -- each has an entry for each iteration
   tables-long : (n ≤ length a′) × (n ≤ length b′) × (n ≤ length c′) × (n ≤ length d′)
   tables-long = (
-    as-long n (stepsOf s) (drop n a) a′ (steps-length s ok ∙ sym count) steps-are,
+    as-long n (stepsOf s) (drop n a) a′ (steps-length s ∙ sym count) steps-are,
     as-long n (blocksOf s) (drop n b) b′ (blocks-length s ok ∙ sym count) blocks-are,
     as-long n (processorsOf s) (drop n c) c′ (processors-length s ∙ sym count) processors-are,
     as-long n (valuesOf s) (drop n d) d′ (values-length s ∙ sym count) values-are,
@@ -101,7 +102,7 @@ module _ (s : LoopNest) (ok : refusal s ≡ 0) (n : ℕ) (count : n ≡ length (
 
   -- the steps have room in six columns
   steps-fit : (k : ℕ) → k < n → getD a′ k 0 < 1000000
-  steps-fit k h = omega (arith, front n (stepsOf s) (drop n a) a′ (steps-length s ok ∙ sym count) steps-are k h, step-few s ok k (omega arith))
+  steps-fit k h = omega (arith, front n (stepsOf s) (drop n a) a′ (steps-length s ∙ sym count) steps-are k h, step-few s ok k (omega arith))
 
   -- the rows of the tables are those of the plan
   rows-are : tab (rowOf a′ b′ c′ d′) n ≡ tab (rowOf (stepsOf s) (blocksOf s) (processorsOf s) (valuesOf s)) (length (pointsOf s))
@@ -109,7 +110,7 @@ module _ (s : LoopNest) (ok : refusal s ≡ 0) (n : ℕ) (count : n ≡ length (
   rows-are =
       tab-same (rowOf a′ b′ c′ d′) (rowOf (stepsOf s) (blocksOf s) (processorsOf s) (valuesOf s)) n
       (λ k h.
-      ap₂ (λ x y. pos k ∷ pos x ∷ pos y ∷ pos (getD c′ k 0) ∷ pos (getD d′ k 0) ∷ []) (front n (stepsOf s) (drop n a) a′ (steps-length s ok ∙ sym count) steps-are k h) (front n (blocksOf s) (drop n b) b′ (blocks-length s ok ∙ sym count) blocks-are k h)
+      ap₂ (λ x y. pos k ∷ pos x ∷ pos y ∷ pos (getD c′ k 0) ∷ pos (getD d′ k 0) ∷ []) (front n (stepsOf s) (drop n a) a′ (steps-length s ∙ sym count) steps-are k h) (front n (blocksOf s) (drop n b) b′ (blocks-length s ok ∙ sym count) blocks-are k h)
       ∙ ap₂ (λ x y. pos k ∷ pos (getD (stepsOf s) k 0) ∷ pos (getD (blocksOf s) k 0) ∷ pos x ∷ pos y ∷ []) (front n (processorsOf s) (drop n c) c′ (processors-length s ∙ sym count) processors-are k h)
       (front n (valuesOf s) (drop n d) d′ (values-length s ∙ sym count) values-are k h))
       ∙ ap (tab (rowOf (stepsOf s) (blocksOf s) (processorsOf s) (valuesOf s))) count

@@ -10,7 +10,8 @@ use Rattle.nest.specs.Points.{pointsOf}
 use Rattle.nest.specs.Refusals.{refusal, noRoom}
 use Rattle.nest.proofs.Entries.{orElse-first, orElse-second, orElse-zero, same-table, made-table}
 use Rattle.partition.specs.Partition.{stepsOf, blocksOf}
-use Rattle.partition.proofs.Theorems.{steps-length, blocks-length}
+use Rattle.partition.proofs.Nests.{steps-length}
+use Rattle.partition.proofs.Theorems.{blocks-length}
 use Rattle.mapping.specs.Mapping.{processorsOf}
 use Rattle.mapping.proofs.Theorems.{processors-length}
 use Rattle.sequential.specs.Sequential.{sequential, ruleOf, valuesOf}
@@ -80,7 +81,7 @@ module _ (s : LoopNest) (a b c d : List ℕ) where
     made-plan r a′ b′ c′ d′ e q ea eb ec ed = (
       q ∙ ap (planAnswer s) (sym (behind ∙ e)),
       (
-        ea ∙ sym (made-table (r .refusal) n (stepsOf s) a g (steps-length s ok ∙ sym count)),
+        ea ∙ sym (made-table (r .refusal) n (stepsOf s) a g (steps-length s ∙ sym count)),
         (
           eb ∙ sym (made-table (r .refusal) n (blocksOf s) b g (blocks-length s ok ∙ sym count)),
           (

@@ -22,7 +22,8 @@ use Rattle.partition.specs.Partition.{stepsOf, groupsOf, blocksOf, blockCount}
 use Rattle.partition.proofs.Theorems.{step-few, steps-few, block-below}
 use Rattle.mapping.specs.Mapping.{processorsOf, processorCount, isMessage, messageCount}
 use Rattle.mapping.proofs.Messages.{count-most, total-most}
-use Rattle.mapping.proofs.Theorems.{groups-length, processors-length, table-below}
+use Rattle.partition.proofs.Nests.{groups-length}
+use Rattle.mapping.proofs.Theorems.{processors-length, table-below}
 use Rattle.sequential.specs.Sequential.{ruleOf, loop, sequential, valuesOf}
 use Rattle.sequential.proofs.LoopLaws.{loop-entry}
 use Rattle.sequential.proofs.SumLaws.{sum-all}

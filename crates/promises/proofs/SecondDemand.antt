@@ -16,9 +16,10 @@ use Rattle.nest.specs.Refusals.{refusal, tableAfter, Order, Answered, nestOrder
 use Rattle.nest.proofs.Answers.{answered-unique, nest-answered}
 use Rattle.nest.proofs.Entries.{made-table}
 use Rattle.partition.specs.Partition.{stepsOf, stepCount, groupsOf, blocksOf, blockCount, noGroup}
-use Rattle.partition.proofs.Theorems.{steps-length, step-is, step-below, last-step, blocks-length, block-below, block-used, block-order, block-iff, one-iteration-a-step, later-step}
+use Rattle.partition.proofs.Nests.{steps-length, groups-length}
+use Rattle.partition.proofs.Theorems.{step-is, step-below, last-step, blocks-length, block-below, block-used, block-order, block-iff, one-iteration-a-step, later-step}
 use Rattle.mapping.specs.Mapping.{processorsOf, processorCount, messageCount, directionsOf, processor}
-use Rattle.mapping.proofs.Theorems.{groups-length, processors-length, processors-below, messages-counted}
+use Rattle.mapping.proofs.Theorems.{processors-length, processors-below, messages-counted}
 use Rattle.sequential.specs.Sequential.{ruleOf, valuesOf, fillRefusal, fillOrder}
 use Rattle.sequential.proofs.Answers.{fill-answered}
 use Rattle.sequential.proofs.LoopLaws.{loop-value}
@@ -64,7 +65,7 @@ module _ (s : LoopNest) (old : Tables) (p : Planning) (t : Tables) (P : Plans s 
   entry planned was now l e k h = ap (λ (xs : List ℕ). getD xs k 0) (table planned was now l e) ∙ List·getD-append planned (drop (length (pointsOf s)) was) 0 k (omega arith)
 
   step-at : (k : ℕ) → k < length (pointsOf s) → at (t .steps) k ≡ at (stepsOf s) k
-  step-at = entry (stepsOf s) (old .steps) (t .steps) (steps-length s ok) (P .1 .0)
+  step-at = entry (stepsOf s) (old .steps) (t .steps) (steps-length s) (P .1 .0)
 
   block-at : (k : ℕ) → k < length (pointsOf s) → at (t .blocks) k ≡ at (blocksOf s) k
   block-at = entry (blocksOf s) (old .blocks) (t .blocks) (blocks-length s ok) (P .1 .1 .0)
@@ -99,7 +100,7 @@ module _ (s : LoopNest) (old : Tables) (p : Planning) (t : Tables) (P : Plans s 
 
   planned : IsPlan s old p t
   planned = record {
-    steps = table (stepsOf s) (old .steps) (t .steps) (steps-length s ok) (P .1 .0);
+    steps = table (stepsOf s) (old .steps) (t .steps) (steps-length s) (P .1 .0);
     blocks = table (blocksOf s) (old .blocks) (t .blocks) (blocks-length s ok) (P .1 .1 .0);
     processors = table (processorsOf s) (old .processors) (t .processors) (processors-length s) (P .1 .1 .1 .0);
     values = table (valuesOf s) (old .values) (t .values) (values-length s) (P .1 .1 .1 .1);

@@ -12,18 +12,18 @@ use lib.Seq.{getD-set-same, getD-set-other, set-out, take-at}
 use lib.Signed.{_≤ℤ_, _<ℤ_}
 use Rattle.integers.proofs.Linear.{ints, dif}
 use Rattle.integers.specs.Lists.{place}
-use Rattle.integers.proofs.Lists.{split, below-or-not, length-tab}
+use Rattle.integers.proofs.Lists.{split, below-or-not}
 use Rattle.integers.specs.Vector.{Vector, AllWithin, eqZ}
 use Rattle.integers.proofs.Vector.{all-wider}
 use Rattle.integers.proofs.ListFacts.{getD-map}
 use Rattle.nest.specs.declared.LoopNest.{LoopNest}
-use Rattle.nest.specs.Nest.{padded, depthOf, countOf, dependenceAt, dependencesOf, maxDependences, maxLimit, maxComponent}
+use Rattle.nest.specs.Nest.{padded, depthOf, countOf, dependencesOf, maxDependences, maxLimit, maxComponent}
 use Rattle.nest.specs.Points.{pointsOf, point, rank, source}
 use Rattle.nest.specs.Refusals.{refusal, dependence}
 use Rattle.nest.proofs.Accepted.{depth-is}
 use Rattle.nest.proofs.Padding.{at-padded}
 use Rattle.nest.proofs.PointLaws.{some-points, point-length}
-use Rattle.nest.proofs.Sources.{dependence-length}
+use Rattle.nest.proofs.Lengths.{dependences-count, dependence-length}
 use Rattle.sources.specs.Keys.{base, key, maxKey, keysOf, distancesOf, Increasing, notBelow, targetIn, sourceIn, Searchable, Behind}
 use Rattle.sources.proofs.KeyOrder.{key-size}
 use Rattle.sources.proofs.NestKeys.{point-within, dependence-within, nest-keys-increase, source-place, source-below}
@@ -105,7 +105,7 @@ module _ (s : LoopNest) (ok : refusal s ≡ 0) where
   pub distance-is : (i : ℕ) → i < countOf s → getD (padded maxDependences (distancesOf s)) i (pos 0) ≡ key (dependence s i)
   unfolding distancesOf
   distance-is i h =
-      at-padded maxDependences (map key (dependencesOf s)) i ∙ getD-map key (dependencesOf s) i [] (pos 0) (unfold dependencesOf in subst (λ n. i < n) (sym (length-tab (dependenceAt (s .dependences) (depthOf s)) (countOf s))) h)
+      at-padded maxDependences (map key (dependencesOf s)) i ∙ getD-map key (dependencesOf s) i [] (pos 0) (subst (λ n. i < n) (sym (dependences-count s)) h)
 
   -- sources can be searched for
   pub nest-searchable : (i : ℕ) → i < countOf s → Searchable (keysOf s) (getD (padded maxDependences (distancesOf s)) i (pos 0))

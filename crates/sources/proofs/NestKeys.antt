@@ -20,7 +20,8 @@ use Rattle.nest.specs.Refusals.{refusal, backward, backwardDependence, dependen
 use Rattle.nest.proofs.Accepted.{component-size}
 use Rattle.nest.proofs.PointLaws.{point-length, point-size, points-ordered}
 use Rattle.nest.proofs.Refused.{accepted}
-use Rattle.nest.proofs.Sources.{source-before, source-length, dependence-length}
+use Rattle.nest.proofs.Lengths.{dependence-length}
+use Rattle.nest.proofs.Sources.{source-before, source-length}
 use Rattle.nest.proofs.Words.{dependence-at}
 use Rattle.sources.specs.Keys.{key, digits, keysOf, Increasing}
 use Rattle.sources.proofs.Digits.{digits-key}
