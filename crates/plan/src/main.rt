@@ -8,9 +8,9 @@ ghost use Prim.Native.Nat.{ℕ, _≤_};
 ghost use lib.IntN.{pos};
 ghost use lib.ListN.{length, take};
 ghost use Rattle.io.specs.Counts.{Counts};
-ghost use Rattle.nest_text.specs.Text.{line};
+ghost use Rattle.nest_text.specs.Text.{line, readMost};
 ghost use Rattle.nest_text.specs.Stored.{Stored};
-ghost use Rattle.planner.specs.Listing.{listing};
+ghost use Rattle.planner.specs.Listing.{listing, listingMost};
 
 // one byte more than the longest text that is accepted: what is read decides every input
 const MOST_READ: usize = 285;
@@ -21,7 +21,7 @@ const MOST_PRINTED: usize = 127007;
 // The buffer that the text is read into. It has room for so many bytes of an input that they decide
 // what is printed.
 fn input_buffer() -> [u8; MOST_READ]
-    ensures { λ r. ⌜ 285 ≡ length r ⌝ }
+    ensures { λ r. ⌜ readMost ≡ length r ⌝ }
     ensures { λ r. ⌜ ((text : List ℕ) → listing (take (length r) text) ≡ listing text) ⌝ }
 {
     [0; MOST_READ]
@@ -39,7 +39,7 @@ fn put_number(out: &mut [u8], x: u8) -> usize
 // Writes what is printed for a text into a buffer that has room for the longest listing; answers
 // how many bytes that is.
 fn put_listing(text: &[u8], out: &mut [u8]) -> usize
-    requires { ⌜ 127007 ≤ length (now out) ⌝ }
+    requires { ⌜ listingMost ≤ length (now out) ⌝ }
     ensures { λ r. ⌜ Stored (now (out .entry)) 0 (listing (now (text .entry))) (now (out .exit)) r ⌝ }
     ensures { λ r. ⌜ Counts r (now (out .exit)) ⌝ }
 {

@@ -19,6 +19,17 @@ use Rattle.mapping.specs.Mapping.{processorsOf}
 use Rattle.sequential.specs.Sequential.{valuesOf}
 use Rattle.planner.specs.Plan.{countsOf}
 
+-- how many numbers a line has, and how many bytes: six columns each, and byte 10
+abbrev pub rowWidth : ℕ
+rowWidth = 5
+
+abbrev pub rowBytes : ℕ
+rowBytes = 31
+
+-- the bytes of the longest listing: a line for the counts, and one for each of 4096 iterations
+abbrev pub listingMost : ℕ
+listingMost = 127007
+
 -- the numbers of a line: rank, step, block, processor, value of iteration k
 unfoldable pub rowOf : List ℕ → List ℕ → List ℕ → List ℕ → ℕ → List ℤ
 rowOf steps blocks processors values k = pos k ∷ pos (getD steps k 0) ∷ pos (getD blocks k 0)

@@ -16,7 +16,7 @@ ghost use Rattle.sources.specs.Keys.{keysOf};
 ghost use Rattle.partition.specs.Partition.{stepsOf, blocksOf, blockCount};
 ghost use Rattle.mapping.specs.Mapping.{processorsOf};
 ghost use Rattle.sequential.specs.Sequential.{valuesOf};
-ghost use Rattle.planner.specs.Listing.{planText, Lists};
+ghost use Rattle.planner.specs.Listing.{rowBytes, planText, Lists};
 ghost use Rattle.planner.specs.Plan.{refusedWith, planAnswer, tablesIn, Plans};
 
 // What `plan` answers: the number of the first refusal with every count 0, or 0 with the counts.
@@ -44,6 +44,9 @@ fn refused(refusal: u8) -> Planning
     }
 }
 
+// How many numbers the group of a block has in its table.
+const GROUP_NUMBERS: usize = 4;
+
 // The blocks and the processors of the iterations of an accepted nest, from the keys of its index
 // points, into two tables. Answers how many blocks there are.
 fn place_blocks(s: LoopNest, keys: &[i64], blocks: &mut [u16], processors: &mut [u8]) -> usize
@@ -53,7 +56,7 @@ fn place_blocks(s: LoopNest, keys: &[i64], blocks: &mut [u16], processors: &mut 
     ensures { λ r. ⌜ now (blocks .exit) ≡ blocksOf s ++ drop (length (pointsOf s)) (now (blocks .entry)) ⌝ }
     ensures { λ r. ⌜ now (processors .exit) ≡ processorsOf s ++ drop (length (pointsOf s)) (now (processors .entry)) ⌝ }
 {
-    let mut groups = [0i64; LoopNest::MAX_ITERATIONS * 4];
+    let mut groups = [0i64; LoopNest::MAX_ITERATIONS * GROUP_NUMBERS];
     let count = partition::blocks_into(s, keys, &mut groups, blocks);
     let cube = nest::to_size(s.cube);
     mapping::processors_into(&groups, count, cube, blocks, keys.len(), processors);
@@ -130,7 +133,8 @@ pub fn plan(
 
 // The lines of an accepted nest's plan into a lent buffer that has room for them.
 fn put_plan(s: LoopNest, iterations: usize, out: &mut [u8])
-    requires { ⌜ (refusal s ≡ 0) × (iterations ≡ length (pointsOf s)) × (31 * (iterations + 1) ≤ length (now out)) ⌝ }
+    requires { ⌜ (refusal s ≡ 0) × (iterations ≡ length (pointsOf s))
+        × (rowBytes * (iterations + 1) ≤ length (now out)) ⌝ }
     ensures { λ _. ⌜ now (out .exit) ≡ sets (now (out .entry)) 0 (planText s) ⌝ }
 {
     let mut steps = [0u32; LoopNest::MAX_ITERATIONS];

@@ -6,16 +6,20 @@ ghost use lib.IntN.{pos};
 ghost use lib.ListN.{length, getD};
 ghost use Rattle.nest.specs.Nest.{maxIterations};
 ghost use Rattle.integers.specs.Lists.{tab};
+ghost use Rattle.nest_text.specs.Fields.{sevenDigits};
 ghost use Rattle.nest_text.specs.Text.{line};
 ghost use Rattle.nest_text.specs.Stored.{Stored};
-ghost use Rattle.planner.specs.Listing.{rowOf};
+ghost use Rattle.planner.specs.Listing.{rowWidth, rowBytes, rowOf};
 
-// the bytes of a line of five numbers: six columns each, and the byte that ends the line
-pub const LINE: usize = 31;
+// How many numbers a line has.
+pub const NUMBERS: usize = 5;
 
-// Writes a line of five numbers, each below 1000000.
-pub fn put_counts(out: &mut [u8], at: usize, counts: [usize; 5]) -> usize
-    requires { ⌜ (at + 31 ≤ length (now out)) × ((i : ℕ) → i < 5 → getD counts i 0 < 1000000) ⌝ }
+// The bytes of a line: six columns for each number, and the byte that ends the line.
+pub const LINE: usize = nest_text::COLUMNS * NUMBERS + 1;
+
+// Writes a line of numbers that six columns hold.
+pub fn put_counts(out: &mut [u8], at: usize, counts: [usize; NUMBERS]) -> usize
+    requires { ⌜ (at + rowBytes ≤ length (now out)) × ((i : ℕ) → i < rowWidth → getD counts i 0 < sevenDigits) ⌝ }
     ensures { λ r. ⌜ Stored (now (out .entry)) at (line (map pos counts)) (now (out .exit)) r ⌝ }
 {
     let numbers = [
@@ -25,7 +29,7 @@ pub fn put_counts(out: &mut [u8], at: usize, counts: [usize; 5]) -> usize
         counts[3] as i64,
         counts[4] as i64,
     ];
-    nest_text::put_line(out, at, &numbers, 0, 5)
+    nest_text::put_line(out, at, &numbers, 0, NUMBERS)
 }
 
 // Writes the line of an iteration.
@@ -38,8 +42,8 @@ fn put_row(
     processor: u8,
     value: u16,
 ) -> usize
-    requires { ⌜ (at + 31 ≤ length (now out)) × ((rank < 1000000) × (step < 1000000)) ⌝ }
-    ensures { λ r. ⌜ (r ≡ at + 31)
+    requires { ⌜ (at + rowBytes ≤ length (now out)) × ((rank < sevenDigits) × (step < sevenDigits)) ⌝ }
+    ensures { λ r. ⌜ (r ≡ at + rowBytes)
         × Stored (now (out .entry)) at (line (pos rank ∷ pos step ∷ pos block ∷ pos processor ∷ pos value ∷ []))
         (now (out .exit)) r ⌝ }
 {
@@ -63,10 +67,10 @@ pub fn put_rows(
     processors: &[u8],
     values: &[u16],
 ) -> usize
-    requires { ⌜ (at + 31 * iterations ≤ length (now out)) × (iterations ≤ maxIterations) ⌝ }
+    requires { ⌜ (at + rowBytes * iterations ≤ length (now out)) × (iterations ≤ maxIterations) ⌝ }
     requires { ⌜ (iterations ≤ length (now steps)) × (iterations ≤ length (now blocks))
         × (iterations ≤ length (now processors)) × (iterations ≤ length (now values)) ⌝ }
-    requires { ⌜ ((k : ℕ) → k < iterations → getD (now steps) k 0 < 1000000) ⌝ }
+    requires { ⌜ ((k : ℕ) → k < iterations → getD (now steps) k 0 < sevenDigits) ⌝ }
     ensures { λ r. ⌜ Stored (now (out .entry)) at
         (flatMap line (tab (rowOf (now (steps .entry)) (now (blocks .entry)) (now (processors .entry))
         (now (values .entry))) iterations)) (now (out .exit)) r ⌝ }
