@@ -10,18 +10,19 @@ use native.Mathlib.Omega.{arith}
 use borrow.Author.Tests.{eq-eqb, ne-eqb, lt-ltb, le-ltb}
 use lib.ListN.{length, getD, set}
 use Rattle.nest.specs.declared.LoopNest.{LoopNest}
+use Rattle.nest.specs.declared.Inspection.{Inspection}
 use Rattle.nest.specs.Nest.{toℕ, countOf}
 use Rattle.nest.specs.Points.{pointsOf}
-use Rattle.nest.specs.Refusals.{refusal, orElse, shortBuffer, noRoom}
+use Rattle.nest.specs.Refusals.{refusal, orElse, shortBuffer, noRoom, Inspects}
 use Rattle.nest.specs.Sources.{sourceRank, IsSource}
-use Rattle.nest.proofs.Entries.{orElse-first, orElse-second, orElse-zero, enough, all-enough}
+use Rattle.nest.proofs.Entries.{orElse-first, orElse-second, orElse-zero, enough, all-enough, iterations-are}
 use Rattle.mapping.specs.Mapping.{isMessage}
 use Rattle.sequential.specs.Sequential.{ruleOf, valueOf}
 use Rattle.execution.specs.declared.Answer.{Answer}
 use Rattle.execution.specs.declared.Answer.the-variants.{Computed, Delivered, Refused}
 use Rattle.execution.specs.Rules.{every, Move, compute, deliver, Effect, refuse, iteration, message, answer, Layout, View, there, sourceDone, ready, taking, effect}
 use Rattle.execution.specs.Run.{State, bit, stateView, moveRefusal, stateRefusal, moveEffect, after}
-use Rattle.execution.specs.Entry.{layoutIn, stateIn, viewIn, rankOr, numberOf, answerOf, Makes, Delivers, readyFrom, deliveryAnswer, deliveryLeft}
+use Rattle.execution.specs.Entry.{layoutIn, stateIn, viewIn, rankOr, numberOf, answerOf, Makes, Delivers, readyFrom, deliveryAnswer, deliveryLeft, Room}
 use Rattle.execution.proofs.Base.{eq?, every-same}
 use Rattle.execution.proofs.RuleLaws.{effect-number, Numbered, move-refused, move-rules, taking-none, taking-ready, taking-waits, delivering-ready, delivering-refused, compute-there, compute-nowhere, deliver-there, deliver-nowhere, message-some, not-ready}
 use Rattle.execution.proofs.FindingLaws.{takenOf, taken-none, taken-some}
@@ -204,46 +205,60 @@ module _ (s : LoopNest) (steps processors values done delivered : List ℕ) (mv 
       let f = by-effect s st (moveEffect s L st mv) x r st′ e d in
       (f .0, (ap numberOf (f .0) ∙ number-answer s values (moveEffect s L st mv), f .1))
 
-  -- a refusal before the rules is the answer
-  refused-before : (a : ℕ) → stateRefusal s L st ≡ a → a ≢ 0 → Makes s L st mv (Refused a) st
-  refused-before a e h = made-by (refuse a) (Refused a) st (move-refused s L st mv (λ z. h (sym e ∙ z)) ∙ ap refuse e) (refused s st a)
+  module _ (known : Inspection) (inspects : Inspects s known) where
+    -- the number that the buffers give, of m iterations
+    abbrev room : ℕ → ℕ
+    room m = orElse (noRoom m (length steps) (length processors) (length values) (length done)) (shortBuffer m (length delivered))
 
-  -- the nest is refused
-  pub refused-nest : (a : ℕ) → a ≡ refusal s → a ≢ 0 → Makes s L st mv (Refused a) st
-  unfolding moveRefusal
-  refused-nest a e h =
-      let n = length (pointsOf s) in
-      refused-before a
-      (orElse-first (refusal s) (orElse (noRoom n (length steps) (length processors) (length values) (length done)) (shortBuffer n (length delivered))) (λ z. h (e ∙ z)) ∙ sym e) h
+    -- the number that the nest and the buffers give
+    abbrev pub call : ℕ
+    call = orElse (known .refusal) (room (known .iterations))
 
-  module _ (ok : refusal s ≡ 0) (n : ℕ) (count : n ≡ length (pointsOf s)) where
-    -- the number that the buffers give
-    abbrev pub room : ℕ
-    room = orElse (noRoom n (length steps) (length processors) (length values) (length done)) (shortBuffer n (length delivered))
+    -- what is known of the nest is its refusal
+    own : known .refusal ≡ refusal s
+    own = ap (λ (r : Inspection). r .refusal) inspects
 
-    -- it decides
-    behind : stateRefusal s L st ≡ room
+    -- and, where it is accepted, its number of iterations
+    counted : refusal s ≡ 0 → known .iterations ≡ length (pointsOf s)
+    counted ok = ap (λ (r : Inspection). r .iterations) inspects ∙ iterations-are s ok
+
+    -- so the number is that of the call
+    call-is : stateRefusal s L st ≡ call
     unfolding moveRefusal
-    behind =
-        let z = length (pointsOf s) in
-        orElse-second (refusal s) (orElse (noRoom z (length steps) (length processors) (length values) (length done)) (shortBuffer z (length delivered))) ok
-        ∙ ap (λ m. orElse (noRoom m (length steps) (length processors) (length values) (length done)) (shortBuffer m (length delivered))) (sym count)
+    call-is =
+        let m = length (pointsOf s) in
+        eq? (refusal s) 0
+        (λ ok. orElse-second (refusal s) (room m) ok ∙ ap (λ k. room k) (sym (counted ok)) ∙ sym (orElse-second (known .refusal) (room (known .iterations)) (own ∙ ok)))
+        (λ no. orElse-first (refusal s) (room m) no ∙ sym own ∙ sym (orElse-first (known .refusal) (room (known .iterations)) (λ e. no (sym own ∙ e))))
 
-    -- a buffer is too short
-    pub short-buffer : (a : ℕ) → a ≡ room → a ≢ 0 → Makes s L st mv (Refused a) st
-    short-buffer a e h = refused-before a (behind ∙ sym e) h
+    -- a refusal before the rules is the answer
+    pub refused-call : (a : ℕ) → a ≡ call → a ≢ 0 → Makes s L st mv (Refused a) st
+    refused-call a e h = made-by (refuse a) (Refused a) st (move-refused s L st mv (λ z. h (e ∙ sym call-is ∙ z)) ∙ ap refuse (call-is ∙ sym e)) (refused s st a)
 
-    -- none is
-    pub long-buffers : room ≡ 0 → ((n ≤ length steps) × (n ≤ length processors) × (n ≤ length values) × (n ≤ length done)) × (n ≤ length delivered)
-    long-buffers e =
-        let z = orElse-zero (noRoom n (length steps) (length processors) (length values) (length done)) (shortBuffer n (length delivered)) e in
-        (all-enough n (length steps) (length processors) (length values) (length done) (z .0), enough n (length delivered) (z .1))
+    -- where there is none
+    module _ (none : call ≡ 0) where
+      -- the nest is accepted
+      accepted : refusal s ≡ 0
+      accepted = sym own ∙ orElse-zero (known .refusal) (room (known .iterations)) none .0
 
-    -- and the rules decide on the move that the request names
-    pub made-move : room ≡ 0 → (mv₀ : Move) → mv ≡ mv₀ → (r : Answer) (st′ : State ℕ) → Done s st (effect s (viewIn steps processors done delivered) mv₀) r st′ → Makes s L st mv r st′
-    made-move e mv₀ q r st′ d =
-        let v = viewIn steps processors done delivered in
-        made-by (effect s v mv₀) r st′ (move-rules s L st mv (behind ∙ e) ∙ ap (effect s v) q) d
+      -- the buffers have room
+      enough-room : Room (known .iterations) L st
+      enough-room =
+          let n = known .iterations in
+          let z = orElse-zero (known .refusal) (room n) none .1 in
+          let y = orElse-zero (noRoom n (length steps) (length processors) (length values) (length done)) (shortBuffer n (length delivered)) z in
+          let h = all-enough n (length steps) (length processors) (length values) (length done) (y .0) in
+          (h .0, h .1, h .2, h .3, enough n (length delivered) (y .1))
+
+      -- so a move may be made: the nest is accepted, what is known is the number of its iterations, and the buffers have room for them
+      pub may-move : ((refusal s ≡ 0) × (known .iterations ≡ length (pointsOf s))) × Room (known .iterations) L st
+      may-move = ((accepted, counted accepted), enough-room)
+
+      -- and the rules decide on the move that the request names
+      pub made-move : (mv₀ : Move) → mv ≡ mv₀ → (r : Answer) (st′ : State ℕ) → Done s st (effect s (viewIn steps processors done delivered) mv₀) r st′ → Makes s L st mv r st′
+      made-move mv₀ q r st′ d =
+          let v = viewIn steps processors done delivered in
+          made-by (effect s v mv₀) r st′ (move-rules s L st mv (call-is ∙ none) ∙ ap (effect s v) q) d
 
 -- ---- a refused answer has a number other than 0
 

@@ -64,8 +64,10 @@ fn processors_in(s: LoopNest) -> usize
     1usize << c
 }
 
-// 14 if one of the five buffers of a move has fewer entries than there are iterations, 0 otherwise.
-pub fn check_buffers(
+// The refusal of a call before the rules decide, where `number` is the refusal of its nest: that, or
+// else 14 if one of the five buffers has fewer entries than there are iterations, 0 if none has.
+pub fn check_call(
+    number: u8,
     iterations: usize,
     steps: usize,
     processors: usize,
@@ -73,8 +75,12 @@ pub fn check_buffers(
     done: usize,
     delivered: usize,
 ) -> u8
-    ensures { λ r. ⌜ r ≡ orElse (noRoom iterations steps processors values done) (shortBuffer iterations delivered) ⌝ }
+    ensures { λ r. ⌜ r ≡ orElse number
+        (orElse (noRoom iterations steps processors values done) (shortBuffer iterations delivered)) ⌝ }
 {
+    if number != 0 {
+        return number;
+    }
     let room = nest::check_room(iterations, steps, processors, values, done);
     if room != 0 {
         return room;
@@ -204,12 +210,9 @@ pub fn make_move(
         (stateIn (now (values .exit)) (now (done .exit)) (now (delivered .exit))) ⌝ }
 {
     let known = nest::inspect(s);
-    let refusal = known.refusal;
     let iterations = known.iterations;
-    if refusal != 0 {
-        return Answer::Refused(refusal);
-    }
-    let room = check_buffers(
+    let refusal = check_call(
+        known.refusal,
         iterations,
         steps.len(),
         processors.len(),
@@ -217,8 +220,8 @@ pub fn make_move(
         done.len(),
         delivered.len(),
     );
-    if room != 0 {
-        return Answer::Refused(room);
+    if refusal != 0 {
+        return Answer::Refused(refusal);
     }
     let what = request.what;
     match what {

@@ -143,12 +143,9 @@ pub fn make_move_in(
         (stateIn (now (values .exit)) (now (done .exit)) (now (delivered .exit))) ⌝ }
 {
     let known = inspect_in(numbers);
-    let refusal = known.refusal;
     let iterations = known.iterations;
-    if refusal != 0 {
-        return Answer::Refused(refusal);
-    }
-    let room = execution::check_buffers(
+    let refusal = execution::check_call(
+        known.refusal,
         iterations,
         steps.len(),
         processors.len(),
@@ -156,8 +153,8 @@ pub fn make_move_in(
         done.len(),
         delivered.len(),
     );
-    if room != 0 {
-        return Answer::Refused(room);
+    if refusal != 0 {
+        return Answer::Refused(refusal);
     }
     move_on(
         numbers,
