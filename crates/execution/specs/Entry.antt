@@ -80,7 +80,8 @@ abbrev pub Delivers : LoopNest → List ℕ → List ℕ → List ℕ → ℕ �
 Delivers s processors done delivered k i r delivered′ =
     ((steps values : List ℕ) → Answers s (layoutIn steps processors) (stateIn values done delivered) (deliver k i) r)
     × ((steps values : List ℕ)
-    → Leaves s (layoutIn steps processors) (stateIn values done delivered) (deliver k i) (stateIn values done delivered′))
+    → Leaves s (layoutIn steps processors) (stateIn values done delivered) (deliver k i)
+    (stateIn values done delivered′))
 
 -- the same where the rank j of the source is known, which is the number of iterations or more where
 -- there is none: the message can be delivered

@@ -64,8 +64,8 @@ fn processors_in(s: LoopNest) -> usize
     1usize << c
 }
 
-// The refusal of a call before the rules decide, where `number` is the refusal of its nest: that, or
-// else 14 if one of the five buffers has fewer entries than there are iterations, 0 if none has.
+// The refusal of a call before the rules decide, where `number` is the refusal of its nest: that,
+// or else 14 if one of the five buffers has fewer entries than there are iterations, 0 if none has.
 pub fn check_call(
     number: u8,
     iterations: usize,

@@ -1,8 +1,8 @@
 -- Serves as examples: P1 to P10 of document 01 ("Mixes to try"), the counts of 000's loops L1 and
 -- L2, and two nests worked out by hand, as one table; `examples-hold` checks all of it on the
--- definitions, by computation. Where a case is silent: limits 0..3, time vector of ones, cube dimension 0,
--- boundary value and weights 1, and the dependence is 1 in the innermost loop.
--- Assumes nothing.
+-- definitions, by computation. Where a case is silent: limits 0..3, time vector of ones, cube
+-- dimension 0, boundary value and weights 1, and the dependence is 1 in the innermost loop. Assumes
+-- nothing.
 use mathlib.Core.Path.{_≡_, refl}
 use mathlib.Core.Bool.{Bool, true, false, _&&_}
 use mathlib.Core.List.{List, [], _∷_, map, flatMap, zipWith}
@@ -11,7 +11,8 @@ use Prim.Native.Nat.{ℕ, _-_}
 use lib.Dec.{eqb}
 use lib.IntN.{pos, negℤ}
 use lib.ListN.{length, getD}
-use Rattle.integers.specs.Lists.{any, all, first, place, firstsAfter, firsts, count, repeats, tab, greatest, firstFrom, total}
+use Rattle.integers.specs.Lists.{any, all, first, place, firstsAfter, firsts, count, repeats, tab, greatest}
+use Rattle.integers.specs.Lists.{firstFrom, total}
 use Rattle.integers.specs.Vector.{Vector, dots, plus, times, eqZ, eqV, isZeroV}
 use Rattle.integers.specs.Division.{floorDiv}
 use Rattle.nest.specs.declared.LoopNest.{LoopNest}
