@@ -6,6 +6,7 @@ use std::io::Write;
 use std::os::unix::fs::symlink;
 use std::path::{Path, PathBuf};
 use std::process::{Command, Output, Stdio};
+use std::sync::Once;
 
 use second::listing::listing;
 
@@ -18,8 +19,19 @@ fn place(name: &str) -> PathBuf {
     Path::new(env!("CARGO_TARGET_TMPDIR")).join(name)
 }
 
+/// Builds the program, once, so that no test meets what is said of building it.
+fn build() {
+    static BUILT: Once = Once::new();
+    BUILT.call_once(|| {
+        let output = Command::new("./plan").arg("examples/P2.txt").current_dir(root()).output();
+        let output = output.expect("./plan starts");
+        assert!(output.status.success(), "{}", said(&output));
+    });
+}
+
 /// `./plan` with these arguments, called in the repository's folder, with a text as its input.
 fn plan(arguments: &[&str], input: &[u8]) -> Output {
+    build();
     let mut command = Command::new("./plan");
     command.args(arguments).current_dir(root());
     command.stdin(Stdio::piped()).stdout(Stdio::piped()).stderr(Stdio::piped());
@@ -31,6 +43,7 @@ fn plan(arguments: &[&str], input: &[u8]) -> Output {
 
 /// A line of a shell, called in the repository's folder.
 fn shell(line: &str) -> Output {
+    build();
     Command::new("bash").args(["-c", line]).current_dir(root()).output().expect("bash starts")
 }
 
@@ -140,6 +153,7 @@ fn help_version_and_calls_that_are_wrong() {
 
 #[test]
 fn through_a_symbolic_link_from_another_folder() {
+    build();
     let folder = place("linked");
     fs::create_dir_all(&folder).expect("a folder");
     let [link, sheet] = [folder.join("plan"), folder.join("a sheet.txt")];
