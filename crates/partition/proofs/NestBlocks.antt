@@ -15,7 +15,8 @@ use Rattle.nest.specs.Nest.{padded, depthOf, timeOf, dependencesOf, maxLimit}
 use Rattle.nest.specs.Points.{pointsOf, point}
 use Rattle.nest.specs.Refusals.{refusal}
 use Rattle.sources.specs.Keys.{digits, keysOf, sourceIn}
-use Rattle.sources.proofs.Cursors.{keys-most, keys-length}
+use Rattle.sources.proofs.Arrays.{keys-length}
+use Rattle.sources.proofs.Cursors.{keys-most}
 use Rattle.sources.proofs.NestKeys.{point-within, digits-point}
 use Rattle.grouping.specs.Basis.{pick, FramedBy, basisFrameBy}
 use Rattle.grouping.specs.Grouping.{Frame, Group, chosenVectors, blocks, blockNumber}
@@ -39,7 +40,7 @@ module _ (s : LoopNest) (ok : refusal s ≡ 0) where
   -- an iteration has a key and a small point
   pub point-at : (k : ℕ) → k < length (pointsOf s) → PointAt (keysOf s) (depthOf s) k
   point-at k h = record {
-    iteration = omega (arith, keys-length s ok, h);
+    iteration = omega (arith, keys-length s, h);
     key-small = keys-most s ok k;
     within = subst (AllWithin maxLimit) (sym (digits-point s ok k h)) (point-within s ok k h);
   }

@@ -25,7 +25,8 @@ use Rattle.nest.proofs.Lengths.{time-length}
 use Rattle.nest.proofs.PointLaws.{point-length}
 use Rattle.nest.proofs.Words.{part-length, part-at}
 use Rattle.sources.specs.Keys.{key, keysOf, sourceIn, Searchable}
-use Rattle.sources.proofs.Cursors.{key-most, keys-most, keys-length}
+use Rattle.sources.proofs.Arrays.{keys-length}
+use Rattle.sources.proofs.Cursors.{key-most, keys-most}
 use Rattle.sources.proofs.KeyOrder.{key-minus, key-injective}
 use Rattle.sources.proofs.NestKeys.{point-within, nest-keys-increase}
 use Rattle.grouping.specs.Projection.{projection}
@@ -136,7 +137,7 @@ module _ (s : LoopNest) (ok : refusal s ≡ 0) (P : Vector) (time : P ≡ padded
       low = omega (arith, l, h)
 
       found : key (point s i) -ℤ distance ≡ key (point s j)
-      found = ap (λ (z : ℤ). z -ℤ distance) (sym (key-at i h)) ∙ found-key i (omega (arith, low, keys-length s ok)) ∙ key-at j low
+      found = ap (λ (z : ℤ). z -ℤ distance) (sym (key-at i h)) ∙ found-key i (omega (arith, low, keys-length s)) ∙ key-at j low
 
       go : (pos 0 ≤ℤ key w) ⊎ (key w <ℤ pos 0) → projection P (padded 4 (point s i)) ≡ projection P (padded 4 (point s j))
       go (inl q) = one i j h low (omega (ints, found, A .size, dif (key (point s i)) distance, dif (key (point s i)) (key (point s j)), sizes (key w), q))

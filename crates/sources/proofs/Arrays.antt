@@ -5,16 +5,17 @@ use Prim.Native.Nat.{ℕ, _+_, _^_, _<_, _≤_}
 use native.Mathlib.Nat as NatL
 use native.Mathlib.Omega.{arith}
 use lib.IntN.{ℤ, pos, natAbs, _+ℤ_, _*ℤ_}
-use lib.ListN.{length, getD, set, replicate}
+use lib.ListN.{length, getD, set, replicate, length-map}
 use Rattle.integers.specs.Lists.{tab}
 use Rattle.integers.proofs.Lists.{tab-more, length-tab, map-tab}
 use Rattle.integers.specs.Vector.{AllWithin}
 use Rattle.integers.proofs.Vector.{all-each}
 use Rattle.nest.specs.declared.LoopNest.{LoopNest}
 use Rattle.nest.specs.Nest.{part, padded, depthOf, countOf, dependenceAt, dependencesOf, maxDepth, maxDependences, maxLimit}
+use Rattle.nest.specs.Points.{pointsOf}
 use Rattle.nest.proofs.Padding.{padded-none, padded-set}
 use Rattle.nest.proofs.Words.{part-length, part-at}
-use Rattle.sources.specs.Keys.{base, keyFrom, key, maxKey, distancesOf}
+use Rattle.sources.specs.Keys.{base, keyFrom, key, maxKey, distancesOf, keysOf}
 use Rattle.sources.proofs.KeyOrder.{key-size, key-snoc}
 
 -- ---- components in an array
@@ -45,6 +46,13 @@ key-part-size xs from n i m l h =
     -- each of them
     entry : (k : ℕ) → k < i → natAbs (getD (part xs from i) k (pos 0)) ≤ maxLimit
     entry k b = rw (part-at xs from i k b) (h k (omega arith))
+
+-- ---- the keys of the iterations
+
+-- there is a key for each
+pub keys-length : (s : LoopNest) → length (keysOf s) ≡ length (pointsOf s)
+unfolding keysOf
+keys-length s = length-map (pointsOf s) key
 
 -- ---- the keys of the dependences in an array
 

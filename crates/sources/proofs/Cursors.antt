@@ -7,7 +7,7 @@ use native.Mathlib.Omega.{arith}
 use borrow.Author.Tests.{eqb-true, eqb-false}
 use lib.Dec.{eqb}
 use lib.IntN.{ℤ, pos, natAbs, _-ℤ_}
-use lib.ListN.{length, getD, set, take, replicate, length-map, length-append, List·getD-eq-default}
+use lib.ListN.{length, getD, set, take, replicate, length-append, List·getD-eq-default}
 use lib.Seq.{getD-set-same, getD-set-other, set-out, take-at}
 use lib.Signed.{_≤ℤ_, _<ℤ_}
 use Rattle.integers.proofs.Linear.{ints, dif}
@@ -28,7 +28,7 @@ use Rattle.sources.specs.Keys.{base, key, maxKey, keysOf, distancesOf, I
 use Rattle.sources.proofs.KeyOrder.{key-size}
 use Rattle.sources.proofs.NestKeys.{point-within, dependence-within, nest-keys-increase, source-place, source-below}
 use Rattle.sources.proofs.Places.{target-later}
-use Rattle.sources.proofs.Arrays.{power-most}
+use Rattle.sources.proofs.Arrays.{power-most, keys-length}
 
 -- ---- the cursors
 
@@ -72,14 +72,9 @@ module _ (ks distances : List ℤ) (m : ℕ) where
 
 -- ---- an accepted nest
 module _ (s : LoopNest) (ok : refusal s ≡ 0) where
-  -- there is a key for each iteration
-  pub keys-length : length (keysOf s) ≡ length (pointsOf s)
-  unfolding keysOf
-  keys-length = length-map (pointsOf s) key
-
   -- the front of the table that `keys_into` writes
   pub keys-front : (new rest : List ℤ) (n : ℕ) → new ≡ keysOf s ++ rest → n ≡ length (pointsOf s) → (n ≤ length new) × (take n new ≡ keysOf s)
-  keys-front new rest n e h = (omega (arith, keys-length, ap length e ∙ length-append (keysOf s) rest), ap (take n) e ∙ take-at (keysOf s) rest n (keys-length ∙ sym h))
+  keys-front new rest n e h = (omega (arith, keys-length s, ap length e ∙ length-append (keysOf s) rest), ap (take n) e ∙ take-at (keysOf s) rest n (keys-length s ∙ sym h))
 
   -- the key of a vector of the nest's depth
   pub key-most : (v : Vector) → length v ≡ depthOf s → AllWithin maxLimit v → natAbs (key v) ≤ maxKey
@@ -98,7 +93,7 @@ module _ (s : LoopNest) (ok : refusal s ≡ 0) where
   keys-most k =
       ⊎-elim
       (λ (h : k < length (pointsOf s)). subst (λ (z : ℤ). natAbs z ≤ maxKey) (sym (key-at k h)) (key-most (point s k) (point-length s k h) (point-within s ok k h)))
-      (λ (h : length (pointsOf s) ≤ k). subst (λ (z : ℤ). natAbs z ≤ maxKey) (sym (List·getD-eq-default (keysOf s) (pos 0) {n = k} (omega (arith, keys-length)))) zero-le)
+      (λ (h : length (pointsOf s) ≤ k). subst (λ (z : ℤ). natAbs z ≤ maxKey) (sym (List·getD-eq-default (keysOf s) (pos 0) {n = k} (omega (arith, keys-length s)))) zero-le)
       (below-or-not k (length (pointsOf s)))
 
   -- in the array of distances
@@ -135,7 +130,7 @@ pub record OfNest (s : LoopNest) (keys : List ℤ) (m : ℕ) (distances : List �
 module _ (s : LoopNest) (keys : List ℤ) (m : ℕ) (distances : List ℤ) (K : OfNest s keys m distances) where
   -- there is a key for each iteration
   pub keyed-length : length keys ≡ length (pointsOf s)
-  keyed-length = ap length (K .keys-are) ∙ keys-length s (K .accepted)
+  keyed-length = ap length (K .keys-are) ∙ keys-length s
 
   -- the keys increase
   pub keyed-increase : Increasing keys

@@ -9,12 +9,12 @@ use lib.IntN.{ℤ, pos, natAbs, _-ℤ_}
 use lib.ListN.{length, getD}
 use lib.Signed.{_<ℤ_}
 use Rattle.integers.specs.Lists.{place}
-use Rattle.integers.proofs.Lists.{getD-tab, any-tab-each}
+use Rattle.integers.proofs.Lists.{any-tab-each}
 use Rattle.integers.specs.Vector.{Vector, AllWithin, eqZ}
 use Rattle.integers.proofs.Vector.{all-wider, all-each, all-minus}
 use Rattle.integers.proofs.ListFacts.{getD-map}
 use Rattle.nest.specs.declared.LoopNest.{LoopNest}
-use Rattle.nest.specs.Nest.{part, depthOf, countOf, dependenceAt, dependencesOf, maxDepth, maxLimit, maxComponent}
+use Rattle.nest.specs.Nest.{depthOf, countOf, dependenceAt, dependencesOf, maxDepth, maxLimit, maxComponent}
 use Rattle.nest.specs.Points.{pointsOf, point, rank, source}
 use Rattle.nest.specs.Refusals.{refusal, backward, backwardDependence, dependence, holds}
 use Rattle.nest.proofs.Accepted.{component-size}
@@ -22,7 +22,7 @@ use Rattle.nest.proofs.PointLaws.{point-length, point-size, points-ordered}
 use Rattle.nest.proofs.Refused.{accepted}
 use Rattle.nest.proofs.Lengths.{dependence-length}
 use Rattle.nest.proofs.Sources.{source-before, source-length}
-use Rattle.nest.proofs.Words.{dependence-at}
+use Rattle.nest.proofs.Words.{dependence-at, part-at}
 use Rattle.sources.specs.Keys.{key, digits, keysOf, Increasing}
 use Rattle.sources.proofs.Digits.{digits-key}
 use Rattle.sources.proofs.KeyOrder.{key-minus, key-before}
@@ -41,8 +41,7 @@ module _ (s : LoopNest) (ok : refusal s ≡ 0) where
 
   -- and so are a dependence's components
   pub dependence-within : (i : ℕ) → i < countOf s → AllWithin maxComponent (dependence s i)
-  unfolding part
-  dependence-within i h = all-each maxComponent (dependence s i) (λ k l. let b : k < depthOf s = (let e = dependence-length s i h in omega arith) in subst (λ (z : ℤ). natAbs z ≤ maxComponent) (sym (ap (λ (v : Vector). getD v k (pos 0)) (dependence-at s i h) ∙ getD-tab (λ j. getD (s .dependences) (i * maxDepth + j) (pos 0)) (depthOf s) k (pos 0) b)) (component-size s ok i k h b))
+  dependence-within i h = all-each maxComponent (dependence s i) (λ k l. let b : k < depthOf s = (let e = dependence-length s i h in omega arith) in subst (λ (z : ℤ). natAbs z ≤ maxComponent) (sym (ap (λ (v : Vector). getD v k (pos 0)) (dependence-at s i h) ∙ part-at (s .dependences) (i * maxDepth) (depthOf s) k b)) (component-size s ok i k h b))
 
   -- the points come one after the other in loop order
   pub nest-ordered : Ordered (depthOf s) reach (pointsOf s)

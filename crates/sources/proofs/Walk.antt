@@ -23,7 +23,7 @@ use Rattle.nest.proofs.Conditions.{index-in-span}
 use Rattle.nest.proofs.Order.{point-count, index-within}
 use Rattle.sources.specs.Keys.{base, keyFrom, key, maxKey, keysOf}
 use Rattle.sources.specs.Loops.{limitsFrom}
-use Rattle.sources.proofs.Arrays.{power-most}
+use Rattle.sources.proofs.Arrays.{power-most, keys-length}
 
 -- ---- the digits of the outer indices
 
@@ -239,5 +239,5 @@ module _ (s : LoopNest) where
   pub all-keys : (old new : List ℤ) → length (pointsOf s) ≤ length old → new ≡ sets old 0 (map (keyFrom (pos 0)) (points (limitsFrom (s .lower) (s .upper) 0 (depthOf s)))) → new ≡ keysOf s ++ drop (length (pointsOf s)) old
   unfolding keysOf key pointsOf
   all-keys old new h e =
-      let n = length-map (points (limitsOf s)) key in
+      let n = keys-length s in
       e ∙ ap (λ ls. sets old 0 (map (keyFrom (pos 0)) (points ls))) all-limits ∙ sets-front old (map key (points (limitsOf s))) (omega arith) ∙ ap (λ m. map key (points (limitsOf s)) ++ drop m old) n

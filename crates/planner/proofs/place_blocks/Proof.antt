@@ -15,7 +15,7 @@ use Rattle.nest.specs.Points.{pointsOf}
 use Rattle.nest.specs.Refusals.{refusal}
 use Rattle.nest.proofs.Accepted.{cube-is}
 use Rattle.nest.proofs.PointLaws.{few-points, some-points}
-use Rattle.sources.proofs.Cursors.{keys-length}
+use Rattle.sources.proofs.Arrays.{keys-length}
 use Rattle.partition.specs.Partition.{blocksOf, blockCount, blockAt}
 use Rattle.partition.proofs.Theorems.{blocks-length, block-below}
 use Rattle.mapping.proofs.Theorems.{laid-nest}
@@ -54,7 +54,7 @@ numbers-long b = b .blocks-into .kept .1 .1 .1 .0
 
 -- there is a key for each iteration
 keys-count : (d : tie.Start) → length (d .args .keys .now) ≡ length (pointsOf (d .args .s))
-keys-count d = ap (λ (l : List ℤ). length l) (d .pre .1) ∙ keys-length (d .args .s) (d .pre .0)
+keys-count d = ap (λ (l : List ℤ). length l) (d .pre .1) ∙ keys-length (d .args .s)
 
 -- an iteration's entry is its block
 number-at : (b : tie.After-blocks-into) (k : ℕ) → k < length (pointsOf (start b .args .s)) → getD (numbers b) k 0 ≡ blockAt (start b .args .s) k
