@@ -1,4 +1,4 @@
--- The keys of vectors that stand in arrays: digit by digit, and those of a nest's dependences one after the other. Assumes nothing.
+-- The keys of vectors that stand in arrays: digit by digit, and those of a nest's dependences one after the other; how many the iterations have. Assumes nothing.
 use mathlib.Core.Path.{_≡_, refl, sym, ap, _∙_}
 use mathlib.Core.List.{List}
 use Prim.Native.Nat.{ℕ, _+_, _^_, _<_, _≤_}
