@@ -9,6 +9,10 @@ use Rattle.integers.specs.Lists.{tab, total}
 use Rattle.sources.specs.Keys.{sourceIn}
 use Rattle.sequential.specs.Sequential.{modulus}
 
+-- up to so many iterations, the table of their keys is small
+abbrev pub fewIterations : ℕ
+fewIterations = 512
+
 module _ (keys distances : List ℤ) (weights : List ℕ) (boundary : ℕ) (values : List ℕ) (k : ℕ) where
   -- the weight of dependence i times what is read along it
   unfoldable pub termIn : ℕ → ℕ

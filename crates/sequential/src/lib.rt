@@ -12,7 +12,7 @@ ghost use Rattle.nest.specs.Nest.{maxBoundary, maxWeight};
 ghost use Rattle.nest.specs.Points.{pointsOf, rank, isPoint, source};
 ghost use Rattle.nest.specs.Refusals.{refusal, dependence};
 ghost use Rattle.sources.specs.Keys.{keysOf, Searchable, Behind};
-ghost use Rattle.sequential.specs.ByKeys.{valueIn};
+ghost use Rattle.sequential.specs.ByKeys.{fewIterations, valueIn};
 ghost use Rattle.sequential.specs.Sequential.{valueOf, loop, ruleOf, Fills};
 
 // Values are below it.
@@ -160,14 +160,48 @@ pub fn fill_by_keys(s: LoopNest, keys: &[i64], values: &mut [u16])
     }
 }
 
-// The values of the iterations of an accepted nest, in loop order.
-fn fill_values(s: LoopNest, iterations: usize, values: &mut [u16])
+// The values of the iterations of an accepted nest, in loop order. `keys` has room for their keys.
+fn fill_within(s: LoopNest, iterations: usize, keys: &mut [i64], values: &mut [u16])
+    requires { ⌜ (refusal s ≡ 0) × (iterations ≡ length (pointsOf s)) × (iterations ≤ length (now values)) ⌝ }
+    requires { ⌜ iterations ≤ length (now keys) ⌝ }
+    ensures { λ _. ⌜ now (values .exit) ≡ loop (ruleOf s) s iterations ++ drop iterations (now (values .entry)) ⌝ }
+{
+    sources::keys_into(s, keys);
+    fill_by_keys(s, &keys[..iterations], values);
+}
+
+// Up to so many iterations, the table of their keys is small.
+const FEW_ITERATIONS: usize = 512;
+
+// The same, with a table of its own for few iterations.
+fn fill_few(s: LoopNest, iterations: usize, values: &mut [u16])
+    requires { ⌜ (refusal s ≡ 0) × (iterations ≡ length (pointsOf s)) × (iterations ≤ length (now values)) ⌝ }
+    requires { ⌜ iterations ≤ fewIterations ⌝ }
+    ensures { λ _. ⌜ now (values .exit) ≡ loop (ruleOf s) s iterations ++ drop iterations (now (values .entry)) ⌝ }
+{
+    let mut keys = [0i64; FEW_ITERATIONS];
+    fill_within(s, iterations, &mut keys, values);
+}
+
+// The same, with a table of its own for as many iterations as there may be.
+fn fill_many(s: LoopNest, iterations: usize, values: &mut [u16])
     requires { ⌜ (refusal s ≡ 0) × (iterations ≡ length (pointsOf s)) × (iterations ≤ length (now values)) ⌝ }
     ensures { λ _. ⌜ now (values .exit) ≡ loop (ruleOf s) s iterations ++ drop iterations (now (values .entry)) ⌝ }
 {
     let mut keys = [0i64; LoopNest::MAX_ITERATIONS];
-    sources::keys_into(s, &mut keys);
-    fill_by_keys(s, &keys[..iterations], values);
+    fill_within(s, iterations, &mut keys, values);
+}
+
+// The same: the table of keys is no larger than it has to be, since it is cleared whole.
+fn fill_values(s: LoopNest, iterations: usize, values: &mut [u16])
+    requires { ⌜ (refusal s ≡ 0) × (iterations ≡ length (pointsOf s)) × (iterations ≤ length (now values)) ⌝ }
+    ensures { λ _. ⌜ now (values .exit) ≡ loop (ruleOf s) s iterations ++ drop iterations (now (values .entry)) ⌝ }
+{
+    if iterations <= FEW_ITERATIONS {
+        fill_few(s, iterations, values);
+    } else {
+        fill_many(s, iterations, values);
+    }
 }
 
 // The values of the sequential loop into a lent table, which has an entry for each iteration;
