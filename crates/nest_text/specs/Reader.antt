@@ -6,9 +6,10 @@ use mathlib.Core.List.{List, [], _++_, map, flatMap}
 use Prim.Native.Nat.{ℕ, _+_, _*_, _-_}
 use lib.Dec.{eqb, leb, ltb}
 use lib.IntN.{ℤ, pos}
-use lib.ListN.{getD, set, take, drop, replicate}
+use lib.ListN.{getD, take, drop, replicate}
 use Rattle.nest.specs.declared.LoopNest.{LoopNest}
 use Rattle.nest.specs.Nest.{padded, emptyNest, maxDepth, maxDependences}
+use Rattle.nest.specs.Nest.{withLimits, withTimes, withDependences, withBoundary, withWeights}
 use Rattle.nest.specs.Refusals.{firstMet, headerOrder, orElse}
 use Rattle.nest_text.specs.declared.Reading.{Reading}
 use Rattle.nest_text.specs.declared.reader.Line.{Line}
@@ -43,61 +44,20 @@ headerRead bs = record {
 
 -- the limits of loop k
 unfoldable pub withLimitLine : LoopNest → ℕ → List ℤ → LoopNest
-withLimitLine s k row = record {
-  depth = s .depth;
-  count = s .count;
-  cube = s .cube;
-  lower = set (s .lower) k (at row 0);
-  upper = set (s .upper) k (at row 1);
-  time = s .time;
-  dependences = s .dependences;
-  boundary = s .boundary;
-  weights = s .weights;
-}
+withLimitLine s k row = withLimits s k (at row 0) (at row 1)
 
 -- the time vector
 unfoldable pub withTimeLine : LoopNest → List ℤ → LoopNest
-withTimeLine s row = record {
-  depth = s .depth;
-  count = s .count;
-  cube = s .cube;
-  lower = s .lower;
-  upper = s .upper;
-  time = take maxDepth row;
-  dependences = s .dependences;
-  boundary = s .boundary;
-  weights = s .weights;
-}
+withTimeLine s row = withTimes s (take maxDepth row)
 
 -- the components of dependence i
 unfoldable pub withDependenceLine : LoopNest → ℕ → List ℤ → LoopNest
-withDependenceLine s i row = record {
-  depth = s .depth;
-  count = s .count;
-  cube = s .cube;
-  lower = s .lower;
-  upper = s .upper;
-  time = s .time;
-  dependences =
-      take (i * maxDepth) (s .dependences)
-      ++ (take maxDepth row ++ drop (i * maxDepth + maxDepth) (s .dependences));
-  boundary = s .boundary;
-  weights = s .weights;
-}
+withDependenceLine s i row = withDependences s
+    (take (i * maxDepth) (s .dependences) ++ (take maxDepth row ++ drop (i * maxDepth + maxDepth) (s .dependences)))
 
 -- the boundary value and the weights
 unfoldable pub withLastLine : LoopNest → List ℤ → LoopNest
-withLastLine s row = record {
-  depth = s .depth;
-  count = s .count;
-  cube = s .cube;
-  lower = s .lower;
-  upper = s .upper;
-  time = s .time;
-  dependences = s .dependences;
-  boundary = at row 0;
-  weights = take maxDependences (drop 1 row);
-}
+withLastLine s row = withWeights (withBoundary s (at row 0)) (take maxDependences (drop 1 row))
 
 -- line i, counted from 0, of those behind line 1
 unfoldable pub withLine : ℕ → ℕ → LoopNest → ℕ → List ℤ → LoopNest
