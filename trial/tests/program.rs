@@ -88,24 +88,26 @@ fn every_sheet_of_examples_as_a_file_and_as_input() {
 fn the_line_where_a_malformed_sheet_stops_fitting() {
     let whole = fs::read_to_string(root().join("examples/P2.txt")).expect("a sheet");
     let changed = |from: &str, to: &str| whole.replacen(from, to, 1).into_bytes();
-    let six = ", each right-justified in six columns";
+    let not = |line: usize, fields: usize| {
+        format!("line {line} is not {fields} numbers, each right-justified in six columns")
+    };
+    let hint = "it has carriage returns: take them out, as with tr -d '\\r'";
+    let header = "     2     2     1\n";
+    let last = "     1     2     3\n";
     let cases: Vec<(Vec<u8>, String)> = vec![
         (Vec::new(), "it is empty".into()),
-        (changed("     2     2     1\n", "     2     2    1\n"), format!("line 1 is not 3 numbers{six}")),
-        (changed("     2     2     1\n", "     2     2     1"), format!("line 1 is not 3 numbers{six}")),
-        (changed("     0     2\n", "     0     2 \n"), format!("line 3 is not 2 numbers{six}")),
-        (changed("     1     0\n", "     1    -0\n"), format!("line 6 is not 2 numbers{six}")),
-        (changed("     1     0\n", "     1\t    0\n"), format!("line 6 is not 2 numbers{six}")),
-        (changed("     1     2     3\n", "     1     2\n"), format!("line 7 is not 3 numbers{six}")),
-        (changed("     1     2     3\n", "     1     2     3"), "line 7 does not end in a line feed".into()),
-        (changed("     1     2     3\n", ""), "line 7 is missing".into()),
+        (changed(header, "     2     2    1\n"), not(1, 3)),
+        (changed(header, "     2     2     1"), not(1, 3)),
+        (changed("     0     2\n", "     0     2 \n"), not(3, 2)),
+        (changed("     1     0\n", "     1    -0\n"), not(6, 2)),
+        (changed("     1     0\n", "     1\t    0\n"), not(6, 2)),
+        (changed(last, "     1     2\n"), not(7, 3)),
+        (changed(last, last.trim_end()), "line 7 does not end in a line feed".into()),
+        (changed(last, ""), "line 7 is missing".into()),
         ([whole.as_bytes(), b"\n"].concat(), "line 8 is one too many".into()),
         ([whole.as_bytes(), &b"     0\n".repeat(99)].concat(), "line 8 is one too many".into()),
-        (changed("     0     1\n", "\0    0     1\n"), format!("line 2 is not 2 numbers{six}")),
-        (
-            whole.replace('\n', "\r\n").into_bytes(),
-            format!("line 1 is not 3 numbers{six}; it has carriage returns: take them out, as with tr -d '\\r'"),
-        ),
+        (changed("     0     1\n", "\0    0     1\n"), not(2, 2)),
+        (whole.replace('\n', "\r\n").into_bytes(), format!("{}; {hint}", not(1, 3))),
     ];
     for (text, expected) in cases {
         let output = plan(&[], &text);

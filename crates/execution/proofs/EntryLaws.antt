@@ -22,7 +22,8 @@ use Rattle.execution.specs.declared.Answer.{Answer}
 use Rattle.execution.specs.declared.Answer.the-variants.{Computed, Delivered, Refused}
 use Rattle.execution.specs.Rules.{every, Move, compute, deliver, Effect, refuse, iteration, message, answer, Layout, View, there, sourceDone, ready, taking, effect}
 use Rattle.execution.specs.Run.{State, bit, stateView, moveRefusal, stateRefusal, moveEffect, after}
-use Rattle.execution.specs.Entry.{layoutIn, stateIn, viewIn, rankOr, numberOf, answerOf, Makes, Delivers, readyFrom, deliveryAnswer, deliveryLeft, Room}
+use Rattle.execution.specs.Entry.{layoutIn, stateIn, numberOf, answerOf, Makes}
+use Rattle.execution.specs.Inner.{viewIn, rankOr, Delivers, readyFrom, deliveryAnswer, deliveryLeft, Room}
 use Rattle.execution.proofs.Base.{eq?, every-same}
 use Rattle.execution.proofs.RuleLaws.{effect-number, Numbered, move-refused, move-rules, taking-none, taking-ready, taking-waits, delivering-ready, delivering-refused, compute-there, compute-nowhere, deliver-there, deliver-nowhere, message-some, not-ready}
 use Rattle.execution.proofs.FindingLaws.{takenOf, taken-none, taken-some}

@@ -22,7 +22,7 @@ use Rattle.nest.specs.Sources.{sourceRank}
 use Rattle.nest.proofs.PointLaws.{source-found, source-none}
 use Rattle.execution.specs.Rules.{every, better, least, View, stepIn, waits, there}
 use Rattle.execution.specs.Run.{bit}
-use Rattle.execution.specs.Entry.{viewIn, rankOr, readyFrom}
+use Rattle.execution.specs.Inner.{viewIn, rankOr, readyFrom}
 use Rattle.execution.proofs.Base.{opt, every-refute, better-less, better-not, least-some}
 use Rattle.execution.proofs.BitLaws.{every-more, least-start, least-more}
 use Rattle.execution.proofs.RuleLaws.{there-own, there-other}

@@ -1,22 +1,18 @@
--- The entry that makes a move, in terms of the run: lent buffers as layout, state and view; the
--- move that a request asks for; and the document's number and values for each case of the answer.
+-- The entry that makes a move, in terms of the run: lent buffers as layout and state; the move that
+-- a request asks for; and the document's number and values for each case of the answer.
 -- Assumes nothing.
 use mathlib.Core.Path.{_≡_}
-use mathlib.Core.Bool.{Bool, true, false, not, _&&_}
 use mathlib.Core.List.{List, [], _∷_}
-use mathlib.Core.Option.{Option, none, some}
-use Prim.Native.Nat.{ℕ, _+_, _^_, _≤_}
-use lib.Dec.{eqb, ltb}
+use Prim.Native.Nat.{ℕ}
+use lib.ListN.{getD}
 use Rattle.nest.specs.declared.LoopNest.{LoopNest}
-use lib.ListN.{length, getD, set}
 use Rattle.sequential.specs.Sequential.{ruleOf, valueOf, valuesOf}
 use Rattle.execution.specs.declared.Move as asked
 use Rattle.execution.specs.declared.Move.the-variants.{Compute, Deliver}
 use Rattle.execution.specs.declared.Answer.{Answer}
 use Rattle.execution.specs.declared.Answer.the-variants.{Computed, Delivered, Refused}
-use Rattle.execution.specs.Rules.{Move, compute, deliver, Effect, refuse, iteration, message, Layout, View}
-use Rattle.execution.specs.Rules.{effect}
-use Rattle.execution.specs.Run.{State, stateView, bit, after, moveEffect, moveAnswer, moveAfter}
+use Rattle.execution.specs.Rules.{Move, compute, deliver, Effect, refuse, iteration, message, Layout}
+use Rattle.execution.specs.Run.{State, moveEffect, moveAnswer, moveAfter}
 
 -- ---- lent buffers
 
@@ -27,15 +23,6 @@ layoutIn steps processors = record { steps = steps; processors = processors }
 -- the state's three buffers
 abbrev pub stateIn : List ℕ → List ℕ → List ℕ → State ℕ
 stateIn values done delivered = record { values = values; done = done; delivered = delivered }
-
--- what a move looks at: the values are no part of it
-abbrev pub viewIn : List ℕ → List ℕ → List ℕ → List ℕ → View
-viewIn steps processors done delivered = stateView (layoutIn steps processors) (stateIn [] done delivered)
-
--- a rank, or the number of iterations where there is none
-abbrev pub rankOr : ℕ → Option ℕ → ℕ
-rankOr iterations none = iterations
-rankOr iterations (some k) = k
 
 -- ---- requests and answers
 
@@ -57,45 +44,6 @@ unfoldable pub answerOf : LoopNest → List ℕ → Effect → Answer
 answerOf s values (refuse number) = Refused number
 answerOf s values (iteration k) = Computed (record { rank = k; value = valueOf (ruleOf s) s values k })
 answerOf s values (message k i) = Delivered (record { rank = k; dependence = i })
-
--- ---- moves on an accepted nest, with an entry for each of its iterations in every buffer
-
--- each buffer has an entry for each of so many iterations
-abbrev pub Room : ℕ → Layout → State ℕ → Type 0
-Room iterations L st = (iterations ≤ length (L .steps)) × (iterations ≤ length (L .processors))
-    × (iterations ≤ length (st .values)) × (iterations ≤ length (st .done)) × (iterations ≤ length (st .delivered))
-
--- r is what the rules answer to a move
-abbrev pub Answers : LoopNest → Layout → State ℕ → Move → Answer → Type 0
-Answers s L st mv r = r ≡ answerOf s (st .values) (effect s (stateView L st) mv)
-
--- st′ is what they leave
-abbrev pub Leaves : LoopNest → Layout → State ℕ → Move → State ℕ → Type 0
-Leaves s L st mv st′ = st′ ≡ after (ruleOf s) s st (effect s (stateView L st) mv)
-
--- ---- deliveries
-
--- what a delivery answers and leaves, whatever the steps and the values are
-abbrev pub Delivers : LoopNest → List ℕ → List ℕ → List ℕ → ℕ → ℕ → Answer → List ℕ → Type 0
-Delivers s processors done delivered k i r delivered′ =
-    ((steps values : List ℕ) → Answers s (layoutIn steps processors) (stateIn values done delivered) (deliver k i) r)
-    × ((steps values : List ℕ)
-    → Leaves s (layoutIn steps processors) (stateIn values done delivered) (deliver k i)
-    (stateIn values done delivered′))
-
--- the same where the rank j of the source is known, which is the number of iterations or more where
--- there is none: the message can be delivered
-abbrev pub readyFrom : ℕ → ℕ → List ℕ → List ℕ → List ℕ → ℕ → ℕ → Bool
-readyFrom j iterations processors done delivered k i =
-    ltb j iterations && (not (eqb (getD processors j 0) (getD processors k 0))
-    && (not (eqb (getD done j 0) 0) && not (bit i (getD delivered k 0))))
-
--- what is answered, and what is left
-abbrev pub deliveryAnswer : Bool → ℕ → ℕ → Answer
-deliveryAnswer b k i = elim b [ true ↦ Delivered (record { rank = k; dependence = i }) | false ↦ Refused 16 ]
-
-abbrev pub deliveryLeft : Bool → List ℕ → ℕ → ℕ → List ℕ
-deliveryLeft b delivered k i = elim b [ true ↦ set delivered k (getD delivered k 0 + 2 ^ i) | false ↦ delivered ]
 
 -- ---- calls of the entry
 

@@ -7,3 +7,4 @@ pub mod Words
 pub mod Claim
 pub mod Example
 pub mod Entry
+pub mod Inner

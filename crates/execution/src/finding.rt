@@ -15,7 +15,7 @@ ghost use Rattle.nest.specs.Refusals.{refusal};
 ghost use Rattle.nest.specs.Sources.{sourceRank};
 ghost use Rattle.execution.specs.Rules.{every, better, least, stepIn, waits, there};
 ghost use Rattle.execution.specs.Run.{bit};
-ghost use Rattle.execution.specs.Entry.{viewIn, rankOr, readyFrom};
+ghost use Rattle.execution.specs.Inner.{viewIn, rankOr, readyFrom};
 
 // 2^i, for a bit of a byte.
 fn power(i: usize) -> u8

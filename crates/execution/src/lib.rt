@@ -12,8 +12,9 @@ ghost use Rattle.nest.specs.Nest.{toℕ, maxCube, maxDependences};
 ghost use Rattle.nest.specs.Points.{pointsOf};
 ghost use Rattle.nest.specs.Refusals.{refusal, orElse, shortBuffer, noRoom};
 ghost use Rattle.execution.specs.Rules.{compute};
-ghost use Rattle.execution.specs.Entry.{layoutIn, stateIn, moveOf, Room, Answers, Leaves, Makes, Delivers};
-ghost use Rattle.execution.specs.Entry.{readyFrom, deliveryAnswer, deliveryLeft};
+ghost use Rattle.execution.specs.Entry.{layoutIn, stateIn, moveOf, Makes};
+ghost use Rattle.execution.specs.Inner.{Room, Answers, Leaves, Delivers};
+ghost use Rattle.execution.specs.Inner.{readyFrom, deliveryAnswer, deliveryLeft};
 
 // waiting: compute, a source is not there
 pub const WAITING: u8 = 15;

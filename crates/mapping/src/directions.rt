@@ -5,10 +5,10 @@ use nest::LoopNest;
 ghost use mathlib.Core.Path.{_≡_};
 ghost use Prim.Native.Nat.{_<_, _≤_};
 ghost use Rattle.nest.specs.Nest.{maxDepth, maxIterations};
-ghost use Rattle.mapping.specs.GroupNumbers.{columnOf, HasRows, column, spanOf, directionsIn, held, noBits};
+ghost use Rattle.mapping.specs.GroupNumbers.{columnOf, RowsInSpan, column, spanOf, directionsIn, held, noBits};
 
 // Numbers a row of the table of groups: class, q, b, and one that is not read here.
-pub const ROW: usize = 4;
+pub const ROW: usize = numbering::COMPONENTS;
 
 // A direction with no bits: its least value and its width.
 struct Reach {
@@ -18,7 +18,7 @@ struct Reach {
 
 // The direction whose values are the numbers j of so many rows.
 fn reach_in(rows: &[i64], j: usize, count: usize) -> Reach
-    requires { ⌜ (1 ≤ count) × (count ≤ maxIterations) × (j < maxDepth) × HasRows (now rows) count ⌝ }
+    requires { ⌜ (1 ≤ count) × (count ≤ maxIterations) × (j < maxDepth) × RowsInSpan (now rows) count ⌝ }
     ensures { λ r. ⌜ (r .least ≡ spanOf (column (now (rows .entry)) j count) .least)
         × (r .width ≡ spanOf (column (now (rows .entry)) j count) .width) ⌝ }
 {
@@ -51,7 +51,7 @@ pub fn column_of(j: usize) -> usize
 
 // The directions of so many rows.
 pub fn spans_in(rows: &[i64], count: usize) -> Spans
-    requires { ⌜ (1 ≤ count) × (count ≤ maxIterations) × HasRows (now rows) count ⌝ }
+    requires { ⌜ (1 ≤ count) × (count ≤ maxIterations) × RowsInSpan (now rows) count ⌝ }
     ensures { λ r. ⌜ held (r .least) (r .width) noBits ≡ directionsIn (now (rows .entry)) count ⌝ }
 {
     let mut least = [0i64; LoopNest::MAX_DEPTH];

@@ -15,7 +15,7 @@ ghost use lib.Signed.{_≤ℤ_};
 ghost use Rattle.integers.specs.Lists.{tab, count};
 ghost use Rattle.nest.specs.Nest.{toℕ, maxDepth, maxCube, maxIterations};
 ghost use Rattle.mapping.specs.Mapping.{bitsOf, gray, partOf, joined};
-ghost use Rattle.mapping.specs.GroupNumbers.{maxNumber, valuesIn, numberAt, columnOf, HasRows, processorsIn};
+ghost use Rattle.mapping.specs.GroupNumbers.{maxNumber, valuesIn, numberAt, columnOf, RowsInSpan, processorsIn};
 ghost use Rattle.mapping.specs.GroupNumbers.{heldAt, held, Fits};
 
 // The code of row k's value in direction j.
@@ -27,7 +27,7 @@ fn code_at(
     width: [u64; LoopNest::MAX_DEPTH],
     bits: [u64; LoopNest::MAX_DEPTH],
 ) -> u64
-    requires { ⌜ (k < maxIterations) × (j < maxDepth) × HasRows (now rows) (k + 1) × (getD bits j 0 ≤ maxCube) ⌝ }
+    requires { ⌜ (k < maxIterations) × (j < maxDepth) × RowsInSpan (now rows) (k + 1) × (getD bits j 0 ≤ maxCube) ⌝ }
     requires { ⌜ (natAbs (getD least j (pos 0)) ≤ maxNumber)
         × (getD least j (pos 0) ≤ℤ numberAt (now rows) (columnOf j) k)
         × (toℕ (numberAt (now rows) (columnOf j) k -ℤ getD least j (pos 0)) < getD width j 0) ⌝ }
@@ -44,7 +44,7 @@ fn processor_of(
     width: [u64; LoopNest::MAX_DEPTH],
     bits: [u64; LoopNest::MAX_DEPTH],
 ) -> u8
-    requires { ⌜ (k < maxIterations) × HasRows (now rows) (k + 1) × (bitsOf (held least width bits) ≤ maxCube) ⌝ }
+    requires { ⌜ (k < maxIterations) × RowsInSpan (now rows) (k + 1) × (bitsOf (held least width bits) ≤ maxCube) ⌝ }
     requires { ⌜ ((j : ℕ) → j < maxDepth → natAbs (getD least j (pos 0)) ≤ maxNumber)
         × Fits (held least width bits) (valuesIn (now rows) k) ⌝ }
     ensures { λ r. ⌜ r ≡ joined 0 (held least width bits) (valuesIn (now (rows .entry)) k) ⌝ }
@@ -65,7 +65,7 @@ fn fill_processors(
     bits: [u64; LoopNest::MAX_DEPTH],
     processors: &mut [u8],
 )
-    requires { ⌜ (count ≤ maxIterations) × HasRows (now rows) count × (bitsOf (held least width bits) ≤ maxCube)
+    requires { ⌜ (count ≤ maxIterations) × RowsInSpan (now rows) count × (bitsOf (held least width bits) ≤ maxCube)
         × (count ≤ length (now processors)) ⌝ }
     requires { ⌜ ((j : ℕ) → j < maxDepth → natAbs (getD least j (pos 0)) ≤ maxNumber)
         × ((k : ℕ) → k < count → Fits (held least width bits) (valuesIn (now rows) k)) ⌝ }
@@ -80,7 +80,7 @@ fn fill_processors(
 
 // The processors of so many blocks whose groups stand in `rows`, in a hypercube of dimension c.
 fn block_processors(rows: &[i64], count: usize, c: usize, processors: &mut [u8])
-    requires { ⌜ (1 ≤ count) × (count ≤ maxIterations) × (c ≤ maxCube) × HasRows (now rows) count
+    requires { ⌜ (1 ≤ count) × (count ≤ maxIterations) × (c ≤ maxCube) × RowsInSpan (now rows) count
         × (count ≤ length (now processors)) ⌝ }
     ensures { λ _. ⌜ now (processors .exit)
         ≡ processorsIn (now (rows .entry)) count c ++ drop count (now (processors .entry)) ⌝ }
@@ -116,7 +116,7 @@ pub fn processors_into(
     iterations: usize,
     processors: &mut [u8],
 )
-    requires { ⌜ (1 ≤ count) × (count ≤ maxIterations) × (c ≤ maxCube) × HasRows (now rows) count ⌝ }
+    requires { ⌜ (1 ≤ count) × (count ≤ maxIterations) × (c ≤ maxCube) × RowsInSpan (now rows) count ⌝ }
     requires { ⌜ (iterations ≤ length (now blocks)) × (iterations ≤ length (now processors))
         × ((k : ℕ) → k < iterations → getD (now blocks) k 0 < count) ⌝ }
     ensures { λ _. ⌜ now (processors .exit)

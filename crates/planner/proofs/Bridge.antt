@@ -21,7 +21,7 @@ use Rattle.numbering.specs.Tables.{row}
 use Rattle.partition.specs.GroupRows.{GroupRow, GroupTable}
 use Rattle.partition.proofs.Theorems.{chosen-bound}
 use Rattle.mapping.specs.Mapping.{inOrder, nextTurn, processorsOf, processorCount, isMessage, messageCount}
-use Rattle.mapping.specs.GroupNumbers.{Laid, HasRows, columnOf, valuesIn, numberAt}
+use Rattle.mapping.specs.GroupNumbers.{Laid, RowsInSpan, columnOf, valuesIn, numberAt}
 use Rattle.mapping.proofs.Theorems.{processors-length, table-below, table-processors, table-messages}
 use Rattle.sequential.specs.Sequential.{sequential, loop, ruleOf, valuesOf}
 use Rattle.planner.specs.declared.Planning.{Planning}
@@ -58,7 +58,7 @@ module _ (s : LoopNest) (ok : refusal s ≡ 0) (rows : List ℤ) (T : GroupTable
   few = omega (arith, chosen-bound s ok, depth-is s ok .1)
 
   -- there is a row for each block
-  pub has-rows : (n : ℕ) → n ≡ blockCount s → HasRows rows n
+  pub has-rows : (n : ℕ) → n ≡ blockCount s → RowsInSpan rows n
   unfolding blockCount
   has-rows n e = record {
     room = omega (arith, h, e);

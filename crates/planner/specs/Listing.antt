@@ -2,33 +2,35 @@
 -- Assumes nothing.
 use mathlib.Core.Bool.{true, false}
 use mathlib.Core.List.{List, [], _∷_, _++_, map, flatMap}
-use Prim.Native.Nat.{ℕ, _<_}
+use Prim.Native.Nat.{ℕ, _+_, _*_, _<_}
 use lib.Dec.{eqb}
 use lib.IntN.{ℤ, pos}
 use lib.ListN.{length, getD}
 use Rattle.integers.specs.Lists.{tab}
 use Rattle.nest.specs.declared.LoopNest.{LoopNest}
+use Rattle.nest.specs.Nest.{maxIterations}
 use Rattle.nest.specs.Points.{pointsOf}
 use Rattle.nest.specs.Refusals.{Order}
 use Rattle.nest_text.specs.Fields.{Bytes}
 use Rattle.nest_text.specs.declared.Writing.{Writing}
-use Rattle.nest_text.specs.Text.{line, readRefusal, readNest, Puts}
+use Rattle.nest_text.specs.Text.{lineLength, line, readRefusal, readNest, Puts}
 use Rattle.nest_text.specs.Form.{readOrder}
 use Rattle.partition.specs.Partition.{stepsOf, blocksOf}
 use Rattle.mapping.specs.Mapping.{processorsOf}
 use Rattle.sequential.specs.Sequential.{valuesOf}
 use Rattle.planner.specs.Plan.{countsOf}
 
--- how many numbers a line has, and how many bytes: six columns each, and byte 10
+-- how many numbers a line has
 abbrev pub rowWidth : ℕ
 rowWidth = 5
 
+-- and how many bytes
 abbrev pub rowBytes : ℕ
-rowBytes = 31
+rowBytes = lineLength rowWidth
 
--- the bytes of the longest listing: a line for the counts, and one for each of 4096 iterations
+-- the bytes of the longest listing: a line for the counts, and one for each iteration
 abbrev pub listingMost : ℕ
-listingMost = 127007
+listingMost = rowBytes * (maxIterations + 1)
 
 -- the numbers of a line: rank, step, block, processor, value of iteration k
 unfoldable pub rowOf : List ℕ → List ℕ → List ℕ → List ℕ → ℕ → List ℤ

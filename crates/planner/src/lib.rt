@@ -44,9 +44,6 @@ fn refused(refusal: u8) -> Planning
     }
 }
 
-// How many numbers the group of a block has in its table.
-const GROUP_NUMBERS: usize = 4;
-
 // The blocks and the processors of the iterations of an accepted nest, from the keys of its index
 // points, into two tables. Answers how many blocks there are.
 fn place_blocks(s: LoopNest, keys: &[i64], blocks: &mut [u16], processors: &mut [u8]) -> usize
@@ -56,7 +53,7 @@ fn place_blocks(s: LoopNest, keys: &[i64], blocks: &mut [u16], processors: &mut 
     ensures { λ r. ⌜ now (blocks .exit) ≡ blocksOf s ++ drop (length (pointsOf s)) (now (blocks .entry)) ⌝ }
     ensures { λ r. ⌜ now (processors .exit) ≡ processorsOf s ++ drop (length (pointsOf s)) (now (processors .entry)) ⌝ }
 {
-    let mut groups = [0i64; LoopNest::MAX_ITERATIONS * GROUP_NUMBERS];
+    let mut groups = [0i64; LoopNest::MAX_ITERATIONS * numbering::COMPONENTS];
     let count = partition::blocks_into(s, keys, &mut groups, blocks);
     let cube = nest::to_size(s.cube);
     mapping::processors_into(&groups, count, cube, blocks, keys.len(), processors);

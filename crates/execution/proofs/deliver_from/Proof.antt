@@ -4,7 +4,7 @@ use borrow.Author.Tests.{not-true, not-false}
 use mathlib.Core.Path.{_≡_, sym, ap, _∙_}
 use mathlib.Core.Bool.{true, false}
 use lib.ListN.{set}
-use Rattle.execution.specs.Entry.{readyFrom, deliveryAnswer, deliveryLeft}
+use Rattle.execution.specs.Inner.{readyFrom, deliveryAnswer, deliveryLeft}
 use Rattle.execution.proofs.FindingLaws.{from-free}
 use Rattle.execution.proofs.deliver_from.Statement.{statement}
 use Rattle.execution.proofs.deliver_from.Tie as tie

@@ -5,7 +5,8 @@ use lib.ListN.{length}
 use Rattle.nest.specs.Points.{pointsOf}
 use Rattle.nest.specs.Refusals.{refusal}
 use Rattle.execution.specs.Rules.{compute, deliver}
-use Rattle.execution.specs.Entry.{layoutIn, stateIn, moveOf, Room}
+use Rattle.execution.specs.Entry.{layoutIn, stateIn, moveOf}
+use Rattle.execution.specs.Inner.{Room}
 use Rattle.execution.proofs.EntryLaws.{call, refused-call, may-move, made-move}
 use Rattle.execution.proofs.make_move.Statement.{statement}
 use Rattle.execution.proofs.make_move.Tie as tie

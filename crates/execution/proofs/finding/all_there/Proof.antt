@@ -10,7 +10,7 @@ use Rattle.integers.proofs.Bounds.{told}
 use Rattle.nest.specs.Nest.{toℕ, countOf}
 use Rattle.nest.specs.Sources.{sourceRank}
 use Rattle.execution.specs.Rules.{every, there}
-use Rattle.execution.specs.Entry.{viewIn}
+use Rattle.execution.specs.Inner.{viewIn}
 use Rattle.execution.proofs.BitLaws.{every-none}
 use Rattle.execution.proofs.FindingLaws.{every-next, every-stops}
 use Rattle.execution.proofs.finding.all_there.Statement.{statement}

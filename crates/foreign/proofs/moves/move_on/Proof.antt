@@ -9,7 +9,8 @@ use Rattle.nest.specs.Refusals.{refusal}
 use Rattle.execution.specs.declared.Answer.{Answer}
 use Rattle.execution.specs.Rules.{Move, compute, deliver, View, effect}
 use Rattle.execution.specs.Run.{State}
-use Rattle.execution.specs.Entry.{stateIn, viewIn, moveOf}
+use Rattle.execution.specs.Entry.{stateIn, moveOf}
+use Rattle.execution.specs.Inner.{viewIn}
 use Rattle.execution.proofs.EntryLaws.{Done}
 use Rattle.foreign.specs.Numbers.{nestIn}
 use Rattle.foreign.proofs.moves.move_on.Statement.{statement}
