@@ -8,7 +8,10 @@ use native.Mathlib.Nat as NatL
 use native.Mathlib.Omega.{arith}
 use lib.ListN.{length, take, drop, getD, replicate}
 use lib.IntN.{ℤ, pos, negsuc, natAbs, _+ℤ_, _-ℤ_, _*ℤ_, +ℤ-assoc, +ℤ-comm, +ℤ-idl, +ℤ-idr, zero-*ℤ, *ℤ-zero, *ℤ-comm}
-use Rattle.integers.proofs.Ring.{distr, distl, *ℤ-assoc, *ℤ-idl}
+use lib.Signed.{_≤ℤ_}
+use Rattle.integers.proofs.Ring.{distr, distl, *ℤ-assoc, *ℤ-idl, zero-factor}
+use Rattle.integers.proofs.Linear.{ints, sum}
+use Rattle.integers.proofs.Order.{square-nonneg}
 use mathlib.Core.Bool.{Bool, true, false}
 use borrow.Author.Tests.{eqb-true, eq-eqb}
 use Rattle.integers.proofs.Lists.{clash, split}
@@ -293,3 +296,30 @@ eqV-same v w e = ap (λ x. eqV v x) (sym e) ∙ eqV-refl v
 
 pub eqV-other : (v w : Vector) → (v ≡ w → ⊥) → eqV v w ≡ false
 eqV-other v w h = split (eqV v w) (λ t. absurd (h (eqV-true v w t))) (λ e. e)
+
+-- ---- the product of a vector with itself, and vectors whose components are all 0
+
+-- it is not negative
+pub self-nonneg : (v : Vector) → pos 0 ≤ℤ dots v v
+unfolding dots
+self-nonneg [] = omega ints
+self-nonneg (x ∷ v) = let a = square-nonneg x in let b = self-nonneg v in omega (ints, sum (x *ℤ x) (dots v v))
+
+-- a square is 0 only for 0
+square-zero : (x : ℤ) → x *ℤ x ≡ pos 0 → x ≡ pos 0
+square-zero x e = split (eqZ x (pos 0)) (eqZ-true x (pos 0)) (λ f. zero-factor x x (λ z. clash (eqZ-same x (pos 0) z) f) e)
+
+-- and the product only for a vector whose components are all 0
+pub self-zero : (v : Vector) → dots v v ≡ pos 0 → (i : ℕ) → getD v i (pos 0) ≡ pos 0
+unfolding dots
+self-zero [] e i = refl
+self-zero (x ∷ v) e zero = let a = square-nonneg x in let b = self-nonneg v in square-zero x (omega (ints, sum (x *ℤ x) (dots v v)))
+self-zero (x ∷ v) e (suc i) = let a = square-nonneg x in let b = self-nonneg v in self-zero v (omega (ints, sum (x *ℤ x) (dots v v))) i
+
+-- whose product with any vector is 0
+pub zero-dots : (v w : Vector) → ((i : ℕ) → i < length v → getD v i (pos 0) ≡ pos 0) → dots v w ≡ pos 0
+unfolding dots
+zero-dots [] w z = refl
+zero-dots (x ∷ v) [] z = refl
+zero-dots (x ∷ v) (y ∷ w) z =
+    ap (λ u. u *ℤ y +ℤ dots v w) (z 0 (omega arith)) ∙ ap (λ u. u +ℤ dots v w) (zero-*ℤ y) ∙ +ℤ-idl (dots v w) ∙ zero-dots v w (λ i l. z (suc i) (omega arith))
