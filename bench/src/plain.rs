@@ -62,7 +62,7 @@ pub fn check(nest: &Nest) -> Result<usize, u8> {
     Ok(iterations as usize)
 }
 
-/// The refusals 7 to 12, of n loops and m dependences.
+/// The refusals 7 to 11, of n loops and m dependences.
 fn check_vectors(nest: &Nest, n: usize, m: usize) -> Result<(), u8> {
     let span = -16..=16;
     let time = &nest.time[..n];
@@ -81,9 +81,6 @@ fn check_vectors(nest: &Nest, n: usize, m: usize) -> Result<(), u8> {
     }
     if (0..m).any(|i| dependence(i).iter().zip(time).map(|(a, b)| a * b).sum::<i64>() < 1) {
         return Err(11);
-    }
-    if time.iter().all(|x| *x == 0) {
-        return Err(12);
     }
     Ok(())
 }

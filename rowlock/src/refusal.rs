@@ -2,7 +2,7 @@
 
 use std::fmt;
 
-/// Why a call is refused: a number from 1 to 19.
+/// Why a call is refused: a number from 1 to 19. 12 is not used.
 #[derive(Clone, Copy, PartialEq, Eq, Hash)]
 pub struct Refusal(u8);
 
@@ -34,7 +34,6 @@ refusals! {
     9 BACKWARD_DEPENDENCE "a dependence is zero, or its first component that is not zero is negative"
     10 EQUAL_DEPENDENCES "two dependences equal"
     11 AGAINST_TIME "the inner product of time vector and a dependence is below 1"
-    12 ZERO_TIME "the time vector is zero"
     13 BAD_WEIGHT "boundary value not from 0 to 65535, or a weight not from 0 to 255"
     14 SHORT_BUFFER "a lent buffer has fewer entries than are needed"
     15 WAITING "compute: a source is not there"
@@ -77,9 +76,13 @@ impl std::error::Error for Refusal {}
 mod tests {
     use super::*;
 
+    /// The number of no refusal: document 02, U8, took it out of use.
+    const NOT_USED: u8 = 12;
+
     /// Number, name and meaning of each refusal, in order.
     fn refusals() -> Vec<(u8, &'static str, &'static str)> {
         (1..=19)
+            .filter(|&number| number != NOT_USED)
             .map(Refusal)
             .map(|refusal| (refusal.number(), refusal.words().0, refusal.words().1))
             .collect()
@@ -90,13 +93,25 @@ mod tests {
         let (_, table) = include_str!("../../README.md")
             .split_once("| number | name | met when |\n|---|---|---|\n")
             .expect("a table");
-        let rows: Vec<String> =
-            table.lines().take_while(|line| line.starts_with('|')).map(str::to_string).collect();
+        let (not_used, rows): (Vec<&str>, Vec<&str>) = table
+            .lines()
+            .take_while(|line| line.starts_with('|'))
+            .partition(|line| line.starts_with(&format!("| {NOT_USED} |")));
         let ours: Vec<String> = refusals()
             .iter()
             .map(|(number, name, meaning)| format!("| {number} | `{name}` | {meaning} |"))
             .collect();
         assert_eq!(rows, ours);
+        assert_eq!(
+            not_used,
+            ["| 12 | | not used: a time vector that is zero is refused with 11 |"]
+        );
+    }
+
+    #[test]
+    fn a_number_that_is_not_used_has_no_name() {
+        assert_eq!(Refusal(NOT_USED).words(), Refusal(20).words());
+        assert!(!include_str!("../../c/rowlock.h").contains(&format!(" = {NOT_USED},")));
     }
 
     #[test]

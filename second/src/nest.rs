@@ -89,7 +89,7 @@ impl LoopNest {
         ])
     }
 
-    /// Refusals 5 to 13: all that follows line 1.
+    /// Refusals 5 to 13, of which 12 is not used: all that follows line 1.
     pub fn refusal_of_lists(&self) -> Option<Number> {
         self.first_met(&[
             (BAD_LIMITS, LoopNest::bad_limits),
@@ -99,7 +99,6 @@ impl LoopNest {
             (BACKWARD_DEPENDENCE, LoopNest::backward_dependence),
             (REPEATED_DEPENDENCE, LoopNest::repeated_dependence),
             (AGAINST_TIME_VECTOR, LoopNest::against_time_vector),
-            (ZERO_TIME_VECTOR, LoopNest::zero_time_vector),
             (WEIGHT_SPAN, LoopNest::weight_out_of_span),
         ])
     }
@@ -158,14 +157,10 @@ impl LoopNest {
         different.len() < self.dependences.len()
     }
 
-    /// 11: a dependence d takes no time, or negative time: P·d is not positive.
+    /// 11: a dependence d takes no time, or negative time: P·d is not positive. It is so for every
+    /// dependence where the time vector is zero.
     fn against_time_vector(&self) -> bool {
         self.dependences.iter().any(|dependence| inner_product(&self.time_vector, dependence) < 1)
-    }
-
-    /// 12: the time vector is zero.
-    fn zero_time_vector(&self) -> bool {
-        self.time_vector_square() == 0
     }
 
     /// 13: the boundary value or one of the weights leaves its span.

@@ -1,5 +1,5 @@
 //! The numbers of document 01's table "Words from the rack". Each is named once; the comment gives
-//! its title in the table.
+//! its title in the table. 12, "dead clock", is not used (document 02, U8).
 
 /// The number that a call answers: `DONE` or a refusal.
 pub type Number = u32;
@@ -28,8 +28,6 @@ pub const BACKWARD_DEPENDENCE: Number = 9;
 pub const REPEATED_DEPENDENCE: Number = 10;
 /// "against the clock": P·d is not positive for some dependence d.
 pub const AGAINST_TIME_VECTOR: Number = 11;
-/// "dead clock": the time vector is zero. With at least one dependence, 11 refuses that already.
-pub const ZERO_TIME_VECTOR: Number = 12;
 /// "weight span": the boundary value or one of the weights leaves its span.
 pub const WEIGHT_SPAN: Number = 13;
 /// "short tray": a buffer is too short for all iterations.

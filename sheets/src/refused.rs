@@ -4,9 +4,9 @@ use second::nest::{inner_product, LoopNest};
 use second::refusal::*;
 use second::text;
 
-use crate::accepted::{depth_from, directions, even_lengths, nest_near_zero};
+use crate::accepted::{any_directions, depth_from, directions, even_lengths, nest_near_zero};
 use crate::random::Random;
-use crate::{in_turn, Case, REFUSED};
+use crate::{Case, REFUSED};
 
 /// Changes a nest so that the condition of a refusal is met.
 pub type Spoiler = fn(&mut Random, &mut LoopNest);
@@ -14,7 +14,7 @@ pub type Spoiler = fn(&mut Random, &mut LoopNest);
 /// A refusal's number and what makes a nest meet its condition.
 pub type NumberedSpoiler = (Number, Spoiler);
 
-/// Each condition just met, and some met by far.
+/// Each condition just met, and some met by far, in the order in which they are tested.
 pub const SPOILERS: &[NumberedSpoiler] = &[
     (BAD_DEPTH, |_, nest| nest.depth = below(LoopNest::DEPTHS)),
     (BAD_DEPTH, |_, nest| nest.depth = above(LoopNest::DEPTHS)),
@@ -48,7 +48,7 @@ pub const SPOILERS: &[NumberedSpoiler] = &[
     (AGAINST_TIME_VECTOR, |random, nest| turn_time_vector(random, nest, 0)),
     (AGAINST_TIME_VECTOR, |random, nest| turn_time_vector(random, nest, -1)),
     (AGAINST_TIME_VECTOR, |_, nest| multiply(&mut nest.time_vector, -1)),
-    (ZERO_TIME_VECTOR, |_, nest| multiply(&mut nest.time_vector, 0)),
+    (AGAINST_TIME_VECTOR, |_, nest| multiply(&mut nest.time_vector, 0)),
     (WEIGHT_SPAN, |_, nest| nest.boundary_value = below(LoopNest::BOUNDARY_VALUES)),
     (WEIGHT_SPAN, |_, nest| nest.boundary_value = above(LoopNest::BOUNDARY_VALUES)),
     (WEIGHT_SPAN, |random, nest| nest.boundary_value = far(random)),
@@ -56,25 +56,44 @@ pub const SPOILERS: &[NumberedSpoiler] = &[
     (WEIGHT_SPAN, |random, nest| put_weight(random, nest, above(LoopNest::WEIGHTS))),
 ];
 
-/// The refusals that spoilers bring about.
-pub(crate) const SPOILED: std::ops::RangeInclusive<Number> = BAD_DEPTH..=WEIGHT_SPAN;
+/// The refusals that spoilers bring about, in the same order.
+pub(crate) fn spoiled() -> Vec<Number> {
+    let mut numbers: Vec<Number> = SPOILERS.iter().map(|&(number, _)| number).collect();
+    numbers.dedup();
+    numbers
+}
+
 /// Those of line 1.
 pub(crate) const SPOILED_IN_LINE_ONE: std::ops::RangeInclusive<Number> =
     BAD_DEPTH..=BAD_CUBE_DIMENSION;
 
-/// A nest with one condition met; all spoilers come in turn. Refusal 1 comes with the damaged
-/// texts.
+/// A nest with one condition met. Refusal 1 comes with the damaged texts.
 pub(crate) fn refused_case(random: &mut Random, number: u64) -> Case {
     let (refusal, nest) = refused_nest(random, number);
     Case { family: REFUSED, kind: refusal.to_string(), text: text::write(&nest).into_bytes() }
 }
 
-/// A nest with one condition met, and the number of that refusal; all spoilers come in turn.
+/// A nest with one condition met, and the number of that refusal: all spoilers come in turn, and
+/// behind them a zero time vector at each depth.
 pub fn refused_nest(random: &mut Random, number: u64) -> (Number, LoopNest) {
-    let (refusal, spoil) = in_turn(SPOILERS, number);
+    let depths: Vec<usize> = LoopNest::DEPTHS.map(|depth| depth as usize).collect();
+    let turn = number as usize % (SPOILERS.len() + depths.len());
+    let Some(&(refusal, spoil)) = SPOILERS.get(turn) else {
+        return (AGAINST_TIME_VECTOR, zero_time_nest(random, depths[turn - SPOILERS.len()]));
+    };
     let mut nest = nest_to_spoil(random);
     spoil(random, &mut nest);
     (refusal, nest)
+}
+
+/// A nest that is accepted but for its time vector, which is zero. No dependence leads to a later
+/// step then: 11, and not 12, which is no longer used (document 02, U8).
+pub fn zero_time_nest(random: &mut Random, depth: usize) -> LoopNest {
+    let directions = any_directions(random, depth);
+    let lengths = even_lengths(random, depth, 60);
+    let mut nest = nest_near_zero(random, &lengths, directions);
+    multiply(&mut nest.time_vector, 0);
+    nest
 }
 
 /// A nest with two conditions met, each by any of the spoilers.

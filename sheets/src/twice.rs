@@ -6,7 +6,7 @@ use second::text;
 
 use crate::damaged::{any_bytes, carriage_returns, no_last_line_end, DAMAGES};
 use crate::random::Random;
-use crate::refused::{nest_to_spoil, spoil, SPOILED, SPOILED_IN_LINE_ONE, SPOILERS};
+use crate::refused::{nest_to_spoil, spoil, spoiled, SPOILED_IN_LINE_ONE, SPOILERS};
 use crate::{Case, TWICE_REFUSED};
 
 /// What a case with two refusals has.
@@ -52,12 +52,13 @@ const REMAINDERS: &[(&str, Remainder)] = &[
 
 /// All that cases with two refusals have in turn.
 fn all_twice() -> Vec<Twice> {
+    let spoiled = spoiled();
     let mut all = vec![Twice::Several];
-    all.extend(
-        SPOILED.flat_map(|high| (*SPOILED.start()..high).map(move |low| Twice::Pair(low, high))),
-    );
-    all.extend(SPOILED.map(Twice::Damaged));
-    all.extend(SPOILED.map(Twice::LastLineDamaged));
+    for (place, &high) in spoiled.iter().enumerate() {
+        all.extend(spoiled[..place].iter().map(|&low| Twice::Pair(low, high)));
+    }
+    all.extend(spoiled.iter().copied().map(Twice::Damaged));
+    all.extend(spoiled.iter().copied().map(Twice::LastLineDamaged));
     all.extend(REMAINDERS.iter().map(|&(kind, remainder)| Twice::InLineOne(kind, remainder)));
     all
 }

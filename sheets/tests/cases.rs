@@ -3,9 +3,8 @@
 use std::collections::HashMap;
 
 use second::nest::LoopNest;
-use second::refusal::*;
 use second::text;
-use sheets::refused::{nest_to_spoil, SPOILERS};
+use sheets::refused::{nest_to_spoil, zero_time_nest, SPOILERS};
 use sheets::{Case, Random, ACCEPTED};
 
 const COUNT: u64 = 2400;
@@ -41,10 +40,22 @@ fn every_refusal_comes_alone() {
             let mut nest = nest_to_spoil(&mut random);
             assert_eq!(nest.refusal(), None);
             spoiler(&mut random, &mut nest);
-            // A zero time vector has P·d = 0 below 1 for every dependence: 11 comes first.
-            let expected = if *number == ZERO_TIME_VECTOR { AGAINST_TIME_VECTOR } else { *number };
             let text = text::write(&nest);
-            assert_eq!(text::read(text.as_bytes()).err(), Some(expected));
+            assert_eq!(text::read(text.as_bytes()).err(), Some(*number));
+        }
+    }
+}
+
+#[test]
+fn a_zero_time_vector_is_refused_with_11_at_each_depth() {
+    for depth in LoopNest::DEPTHS {
+        for seed in 0..200 {
+            let mut nest = zero_time_nest(&mut Random::new(seed), depth as usize);
+            assert_eq!((nest.depth, nest.time_vector.iter().all(|p| *p == 0)), (depth, true));
+            assert_eq!(text::read(text::write(&nest).as_bytes()).err(), Some(11));
+            // what is tested behind 11 does not come first
+            nest.boundary_value = -1;
+            assert_eq!(nest.refusal(), Some(11));
         }
     }
 }
@@ -53,6 +64,9 @@ fn every_refusal_comes_alone() {
 fn all_depths_cube_dimensions_dependence_counts_and_refusals_come_up() {
     let mut seen: HashMap<(&str, i64), i64> = HashMap::new();
     for case in cases() {
+        if let Some(depth) = depth_with_zero_time(&case.text) {
+            *seen.entry(("zero time vector", depth)).or_insert(0) += 1;
+        }
         match text::read(&case.text) {
             Err(number) => *seen.entry(("refusal", i64::from(number))).or_insert(0) += 1,
             Ok(nest) => {
@@ -67,6 +81,19 @@ fn all_depths_cube_dimensions_dependence_counts_and_refusals_come_up() {
     assert!(LoopNest::CUBE_DIMENSIONS.into_iter().all(|c| often("cube dimension", c)));
     assert!(LoopNest::DEPENDENCE_COUNTS.into_iter().all(|m| often("dependences", m)));
     assert!((1..=13).filter(|&number| number != 12).all(|number| often("refusal", number)));
+    assert_eq!(seen.get(&("refusal", 12)), None, "12 is not used");
+    assert!(LoopNest::DEPTHS.into_iter().all(|n| seen[&("zero time vector", n)] >= 5));
+}
+
+/// The depth of a text that is refused with 11 and has only zeros in the line of its time vector.
+fn depth_with_zero_time(text: &[u8]) -> Option<i64> {
+    if text::read(text).err() != Some(11) {
+        return None;
+    }
+    let lines = text::split_lines(text)?;
+    let depth = text::read_fields(lines[0], 3)?[0];
+    let time_vector = text::read_fields(lines[depth as usize + 1], depth as usize)?;
+    time_vector.iter().all(|component| *component == 0).then_some(depth)
 }
 
 #[test]

@@ -53,9 +53,9 @@ fn all_kinds_of_lists_nests_and_answers_come_up() {
     for (what, span) in spans {
         assert!(span.into_iter().all(|number| report.nests[&(what, number)] >= 1), "{what}");
     }
-    // 12 never comes up: with a dependence, 11 refuses a zero time vector first.
     let answers = report.total().answers;
     assert!((2..=18).filter(|&number| number != 12).all(|number| answers[number] >= 20));
+    assert_eq!(answers[12], 0, "12 is not used");
 }
 
 #[test]

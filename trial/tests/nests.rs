@@ -4,6 +4,8 @@ mod common;
 
 use common::*;
 use rowlock::{exported, Nest};
+use second::nest::LoopNest;
+use sheets::refused::zero_time_nest;
 use sheets::Random;
 
 /// Checks and inspects a nest; answers the number of its refusal and the number of iterations.
@@ -42,6 +44,17 @@ fn refused_nests_have_their_numbers_and_no_iterations() {
         assert_eq!(inspected(&lent(&mut random, nest)), (*number, 0), "{nest:?}");
     }
     assert_seen(nests.iter().map(|(number, _)| *number).collect(), OF_NESTS);
+}
+
+#[test]
+fn a_zero_time_vector_is_refused_with_11_at_each_depth() {
+    let mut random = Random::new(16);
+    for depth in LoopNest::DEPTHS {
+        for _ in 0..200 {
+            let nest = zero_time_nest(&mut random, depth as usize);
+            assert_eq!(inspected(&lent(&mut random, &nest)), (11, 0), "{nest:?}");
+        }
+    }
 }
 
 #[test]

@@ -47,6 +47,21 @@ fn every_damage_of_one_byte_is_read_alike() {
     assert_eq!(compare_reading(&vec![b' '; 1 << 20]), 1);
 }
 
+/// Texts of one, two and three loops with a zero time vector, and whatever else is wrong behind it.
+const ZERO_TIMES: [&[u8]; 3] = [
+    b"     1     1     0\n     0     3\n     0\n     1\n     0     1\n",
+    b"     2     1     0\n     0     3\n     0     3\n     0     0\n     0     1\n     0   256\n",
+    b"     3     1     6\n     0     1\n     0     1\n     0     1\n     0     0     0\n\
+      \x20    1    -1     2\n    -1     1\n",
+];
+
+#[test]
+fn a_text_with_a_zero_time_vector_is_refused_with_11() {
+    for text in ZERO_TIMES {
+        assert_eq!(compare_reading(text), 11, "{}", String::from_utf8_lossy(text));
+    }
+}
+
 /// Writes a nest into a buffer of so many bytes and compares with what must be answered and left.
 fn compare_writing(nest: &Nest, room: usize, expected: Result<&[u8], u8>) {
     let before: Vec<u8> = (0..room).map(|place| place as u8 ^ 0x5A).collect();

@@ -23,7 +23,6 @@ pub use crate::refusals::BAD_WEIGHT;
 pub use crate::refusals::EQUAL_DEPENDENCES;
 pub use crate::refusals::SHORT_BUFFER;
 pub use crate::refusals::TOO_MANY_POINTS;
-pub use crate::refusals::ZERO_TIME;
 pub use crate::refusals::check;
 pub use crate::refusals::check_header;
 pub use crate::refusals::check_room;

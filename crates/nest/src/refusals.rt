@@ -8,7 +8,6 @@ use crate::faults::any_crossed;
 use crate::faults::any_dependence_outside;
 use crate::faults::any_equal;
 use crate::faults::any_outside;
-use crate::faults::inner_product;
 use crate::faults::is_outside;
 use crate::points::point_count;
 use crate::to_size;
@@ -41,8 +40,7 @@ pub const BACKWARD_DEPENDENCE: u8 = 9;
 pub const EQUAL_DEPENDENCES: u8 = 10;
 // against the clock: P·d below 1 for a dependence
 pub const AGAINST_TIME: u8 = 11;
-// dead clock: P·P is 0
-pub const ZERO_TIME: u8 = 12;
+// 12 is not used: a time vector that is zero has P·d below 1 for every dependence, which is 11
 // weight span: the boundary value or a weight out of span
 pub const BAD_WEIGHT: u8 = 13;
 // short tray: a lent buffer has fewer entries than are needed
@@ -79,7 +77,7 @@ fn check_limits(lower: &[i64], upper: &[i64], n: usize) -> u8
     0
 }
 
-// The refusals 7 to 12, of n loops and m dependences: the number of the first, or 0.
+// The refusals 7 to 11, of n loops and m dependences: the number of the first, or 0.
 fn check_vectors(time: &[i64], dependences: &[i64], n: usize, m: usize) -> u8
     requires { ⌜ (n ≤ maxDepth) × (n ≤ length (now time)) × (m * maxDepth ≤ length (now dependences)) ⌝ }
     ensures { λ r. ⌜ r ≡ firstMet
@@ -106,9 +104,6 @@ fn check_vectors(time: &[i64], dependences: &[i64], n: usize, m: usize) -> u8
     }
     if any_against(time, dependences, n, m) {
         return AGAINST_TIME;
-    }
-    if inner_product(time, time, 0, n) == 0 {
-        return ZERO_TIME;
     }
     0
 }

@@ -135,7 +135,7 @@ module _ (bs : Bytes) where
       nests = numbered (NestMeets bs) bodyOrder
 
   -- so 1 stands twice
-  pub read-numbers : orderNumbers (readOrder bs) ≡ 1 ∷ 2 ∷ 3 ∷ 4 ∷ 1 ∷ 5 ∷ 6 ∷ 7 ∷ 8 ∷ 9 ∷ 10 ∷ 11 ∷ 12 ∷ 13 ∷ []
+  pub read-numbers : orderNumbers (readOrder bs) ≡ 1 ∷ 2 ∷ 3 ∷ 4 ∷ 1 ∷ 5 ∷ 6 ∷ 7 ∷ 8 ∷ 9 ∷ 10 ∷ 11 ∷ 13 ∷ []
   unfolding number
   read-numbers = refl
 

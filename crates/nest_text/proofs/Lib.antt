@@ -2,6 +2,7 @@
 -- the functions' proofs share.
 pub mod RoundTrip
 pub mod Answers
+pub mod Twelve
 pub mod ReadPrefix
 pub mod SaysLaws
 pub mod FieldLaws

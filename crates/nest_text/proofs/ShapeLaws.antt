@@ -8,8 +8,8 @@ use Prim.Native.Nat.{ℕ, _≤_}
 use native.Mathlib.Omega.{arith}
 use lib.ListN.{getD}
 use Rattle.integers.specs.Lists.{any, first}
-use Rattle.integers.proofs.Lists.{T-true, any-at, any-one, split}
-use Rattle.integers.proofs.ListFacts.{mem-getD, first-passes, first-mem, first-at, first-empty}
+use Rattle.integers.proofs.Lists.{T-true, any-one, split}
+use Rattle.integers.proofs.ListFacts.{any-mem, first-passes, first-mem, first-at, first-empty}
 use Rattle.nest_text.specs.Fields.{Bytes}
 use Rattle.nest_text.specs.Text.{isLine, numbersOf, behind, areLines, headerWidth, headerWidths, Shape, widths}
 use Rattle.nest_text.specs.Text.{shapes, fits, firstFitting, isHeaded, headerWidthOf, headerNumbers, restOf}
@@ -34,10 +34,6 @@ module _ {A : Type 0} (p : A → Bool) (d : A) (xs : List A) where
   -- where none passes, it is what stands for none
   pub first-default : any p xs ≡ false → getD (first p xs) 0 d ≡ d
   first-default h = ap (λ l. getD l 0 d) (first-empty p xs h)
-
-  -- one that is listed and passes
-  pub listed-fits : (x : A) → List·Memᴰ x xs → p x ≡ true → any p xs ≡ true
-  listed-fits x m e = let w = mem-getD xs x d m in any-at p xs (w .0) d (w .1) (ap p (w .2) ∙ e)
 
 module _ {A : Type 0} (p q : A → Bool) where
   -- tests that agree on the list
@@ -80,7 +76,7 @@ module _ (ws : List Shape) (bs : Bytes) where
   -- bytes that a listed shape fits are in form
   pub listed-shape : (w : Shape) → List·Memᴰ w ws → areLines w bs ≡ true → fits ws bs ≡ true
   unfolding fits
-  listed-shape w m e = listed-fits (λ v. areLines v bs) [] ws w m e
+  listed-shape w m e = any-mem (λ v. areLines v bs) ws w m e
 
 module _ (w : Shape) (bs : Bytes) where
   -- where one shape is listed, it is to fit
@@ -120,7 +116,7 @@ module _ (bs : Bytes) where
   -- a line 1 with a listed width is in form
   pub listed-header : (k : ℕ) → List·Memᴰ k headerWidths → isLine k bs ≡ true → isHeaded bs ≡ true
   unfolding isHeaded
-  listed-header k m e = listed-fits (λ j. isLine j bs) 0 headerWidths k m e
+  listed-header k m e = any-mem (λ j. isLine j bs) headerWidths k m e
 
   -- today one is listed
   pub header-one : isHeaded bs ≡ isLine headerWidth bs

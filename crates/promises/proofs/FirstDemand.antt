@@ -8,6 +8,7 @@ use borrow.Author.Tests.{ne-eqb}
 use lib.IntN.{ℤ}
 use lib.ListN.{length}
 use Rattle.nest.specs.declared.LoopNest.{LoopNest}
+use Rattle.nest.specs.declared.Inspection.{Inspection}
 use Rattle.nest.specs.Nest.{emptyNest}
 use Rattle.nest.specs.Points.{pointsOf}
 use Rattle.nest.specs.Refusals.{number, limit, Outside, refusal, iterations, OneShort, tableAfter, Order, Answered, orderNumbers, nestOrder, nestNumbers, Checks, Inspects}
@@ -43,7 +44,7 @@ use Rattle.execution.specs.Entry.{moveOf, numberOf, answerOf, Makes}
 use Rattle.foreign.specs.Numbers.{numbersOf, madeIn, ReadsInto, MakesInto}
 use Rattle.execution.proofs.Answers.{move-answered, compute-numbers, deliver-numbers}
 use Rattle.execution.proofs.EntryLaws.{number-answer}
-use Rattle.promises.specs.Demand1.{bufferNumbers, rowNumbers, textNumbers, moveNumbers, OneOutcome, OneWriting, NoCounts, Demand1}
+use Rattle.promises.specs.Demand1.{bufferNumbers, rowNumbers, textNumbers, moveNumbers, OneOutcome, NoBytes, NoCounts, EveryEntry, Demand1}
 
 -- ---- numbers
 
@@ -59,7 +60,7 @@ list-numbers text room = refl
 -- ---- the entries
 
 -- `check`
-check-one : (s : LoopNest) → OneOutcome (Checks s) (λ r. r) nestNumbers (λ r. Unit {0})
+check-one : (s : LoopNest) → OneOutcome ℕ (Checks s) (λ r. r) nestNumbers (λ r. Unit {0})
 check-one s = record {
   outcome = refusal s;
   promised = refl;
@@ -73,7 +74,7 @@ inspect-refused : (s : LoopNest) → refusal s ≢ 0 → iterations s ≡ 0
 unfolding iterations
 inspect-refused s h = rw (ne-eqb (refusal s) 0 h, iterations) refl
 
-inspect-one : (s : LoopNest) → OneOutcome (Inspects s) (λ r. r .refusal) nestNumbers (λ r. r .iterations ≡ 0)
+inspect-one : (s : LoopNest) → OneOutcome Inspection (Inspects s) (λ r. r .refusal) nestNumbers (λ r. r .iterations ≡ 0)
 inspect-one s = record {
   outcome = record { refusal = refusal s; iterations = iterations s };
   promised = refl;
@@ -87,7 +88,7 @@ read-refused : (text : Bytes) → readRefusal text ≢ 0 → readNest text ≡ e
 unfolding readNest
 read-refused text h = rw (ne-eqb (readRefusal text) 0 h, readNest) refl
 
-read-one : (text : Bytes) → OneOutcome (Reads text) (λ r. r .refusal) textNumbers (λ r. r .nest ≡ emptyNest)
+read-one : (text : Bytes) → OneOutcome Reading (Reads text) (λ r. r .refusal) textNumbers (λ r. r .nest ≡ emptyNest)
 read-one text = record {
   outcome = record { refusal = readRefusal text; nest = readNest text };
   promised = refl;
@@ -98,7 +99,7 @@ read-one text = record {
 
 -- a call that writes bytes
 puts-one : (k : ℕ) (bytes old : Bytes) (numbers : List ℕ) → List·Memᴰ (writeRefusal k bytes (length old)) (0 ∷ numbers)
-    → OneWriting (λ r new. Puts k bytes old r new) numbers old
+    → OneOutcome (Writing × Bytes) (λ o. Puts k bytes old (o .0) (o .1)) (λ o. o .0 .refusal) numbers (NoBytes old)
 puts-one k bytes old numbers m =
     let r : Writing = record { refusal = writeRefusal k bytes (length old); length = writtenLength k bytes (length old) } in
     let new = written k bytes old in
@@ -108,7 +109,7 @@ puts-one k bytes old numbers m =
 row-listed : (s : LoopNest) (entries : ℕ) (i : ℤ) → List·Memᴰ (rowRefusal s entries i) (0 ∷ rowNumbers)
 row-listed s entries i = listed (rowOrder s entries i) rowNumbers (rowRefusal s entries i) (call-numbers s ((14, entries < length (pointsOf s)) ∷ (19, Outside (limit s 0 .lower) (limit s 0 .upper) i) ∷ [])) (row-answered s entries i)
 
-locate-one : (s : LoopNest) (entries : ℕ) (i : ℤ) → OneOutcome (Locates s entries i) (λ r. r .refusal) rowNumbers (λ r. (r .start ≡ 0) × (r .length ≡ 0))
+locate-one : (s : LoopNest) (entries : ℕ) (i : ℤ) → OneOutcome Span (Locates s entries i) (λ r. r .refusal) rowNumbers (λ r. (r .start ≡ 0) × (r .length ≡ 0))
 locate-one s entries i = record {
   outcome = spanOf s entries i;
   promised = refl;
@@ -119,7 +120,7 @@ locate-one s entries i = record {
       (ap (λ (r : Span). r .start) e, ap (λ (r : Span). r .length) e);
 }
 
-row-one : (s : LoopNest) (table : List ℕ) (i : ℤ) → OneOutcome (λ (o : List ℕ × ℕ). Cuts s table i (o .0) (o .1)) (λ o. o .1) rowNumbers (λ o. o .0 ≡ [])
+row-one : (s : LoopNest) (table : List ℕ) (i : ℤ) → OneOutcome (List ℕ × ℕ) (λ o. Cuts s table i (o .0) (o .1)) (λ o. o .1) rowNumbers (λ o. o .0 ≡ [])
 row-one s table i = record {
   outcome = (rowOf s table i, rowRefusal s (length table) i);
   promised = (refl, refl);
@@ -129,7 +130,7 @@ row-one s table i = record {
 }
 
 -- `fill`
-fill-one : (s : LoopNest) (old : List ℕ) → OneOutcome (λ (o : ℕ × List ℕ). Fills s old (o .0) (o .1)) (λ o. o .0) bufferNumbers (λ o. o .1 ≡ old)
+fill-one : (s : LoopNest) (old : List ℕ) → OneOutcome (ℕ × List ℕ) (λ o. Fills s old (o .0) (o .1)) (λ o. o .0) bufferNumbers (λ o. o .1 ≡ old)
 fill-one s old = record {
   outcome = (fillRefusal s (length old), filled s old);
   promised = (refl, refl);
@@ -162,7 +163,7 @@ module _ (s : LoopNest) (old : Tables) where
       let d = e .1 .1 .1 .1 ∙ ap (λ k. tableAfter k (valuesOf s) (old .values)) n in
       λ i. (e .0 i, record { steps = a i; blocks = b i; processors = c i; values = d i })
 
-  plan-one : OneOutcome (λ (o : Planning × Tables). Plans s old (o .0) (o .1)) (λ o. o .0 .refusal) bufferNumbers (λ o. NoCounts (o .0) × (o .1 ≡ old))
+  plan-one : OneOutcome (Planning × Tables) (λ o. Plans s old (o .0) (o .1)) (λ o. o .0 .refusal) bufferNumbers (λ o. NoCounts (o .0) × (o .1 ≡ old))
   plan-one = record {
     outcome = (planned, left);
     promised = (refl, (refl, (refl, (refl, refl))));
@@ -203,7 +204,7 @@ module _ (s : LoopNest) (L : Layout) (st : State ℕ) (mv : Move) where
   kept (iteration k) h = absurd (h refl)
   kept (message k i) h = absurd (h refl)
 
-  move-one : OneOutcome (λ (o : Answer × State ℕ). Makes s L st mv (o .0) (o .1)) (λ o. numberOf (o .0)) (moveNumbers mv) (λ o. o .1 ≡ st)
+  move-one : OneOutcome (Answer × State ℕ) (λ o. Makes s L st mv (o .0) (o .1)) (λ o. numberOf (o .0)) (moveNumbers mv) (λ o. o .1 ≡ st)
   move-one =
       let x = moveEffect s L st mv in
       let n = number-answer s (st .values) x in
@@ -218,7 +219,7 @@ module _ (s : LoopNest) (L : Layout) (st : State ℕ) (mv : Move) where
 -- ---- the exported functions that store an answer as numbers
 
 -- `rowlock_read`
-read-into-one : (text : Bytes) → OneOutcome (λ (o : ℕ × List ℤ). ReadsInto text (o .0) (o .1)) (λ o. o .0) textNumbers (λ o. o .1 ≡ numbersOf emptyNest)
+read-into-one : (text : Bytes) → OneOutcome (ℕ × List ℤ) (λ o. ReadsInto text (o .0) (o .1)) (λ o. o .0) textNumbers (λ o. o .1 ≡ numbersOf emptyNest)
 unfolding read-one
 read-into-one text = record {
   outcome = (readRefusal text, numbersOf (readNest text));
@@ -240,7 +241,7 @@ module _ (s : LoopNest) (L : Layout) (st : State ℕ) (what : asked.Move) where
   made-nothing (iteration k) h = absurd (h refl)
   made-nothing (message k i) h = absurd (h refl)
 
-  move-into-one : OneOutcome (λ (o : ℕ × List ℕ × State ℕ). MakesInto s L st what (o .0) (o .1) (o .2)) (λ o. o .0) (moveNumbers (moveOf what)) (λ o. (o .1 ≡ 0 ∷ 0 ∷ []) × (o .2 ≡ st))
+  move-into-one : OneOutcome (ℕ × List ℕ × State ℕ) (λ o. MakesInto s L st what (o .0) (o .1) (o .2)) (λ o. o .0) (moveNumbers (moveOf what)) (λ o. (o .1 ≡ 0 ∷ 0 ∷ []) × (o .2 ≡ st))
   unfolding move-one
   move-into-one =
       let one = move-one s L st (moveOf what) in
@@ -259,8 +260,8 @@ module _ (s : LoopNest) (L : Layout) (st : State ℕ) (what : asked.Move) where
       }
 
 -- ---- demand 1
-pub demand-1 : Demand1
-demand-1 = record {
+entries-one : EveryEntry OneOutcome
+entries-one = record {
   check = check-one;
   inspect = inspect-one;
   read = read-one;
@@ -268,7 +269,6 @@ demand-1 = record {
       (listed (writeOrder s (length old)) bufferNumbers (writeRefusal (refusal s) (textOf s) (length old)) (call-numbers s ((14, length old < length (textOf s)) ∷ [])) (write-answered s (length old)));
   locate = locate-one;
   row = row-one;
-  row-empty = λ s table i part k c. empty-iff s table i part k (c .0) (c .1);
   fill = fill-one;
   plan = plan-one;
   list = λ text old. puts-one (readRefusal text) (planText (readNest text)) old (textNumbers ++ (14 ∷ []))
@@ -277,3 +277,6 @@ demand-1 = record {
   read-into = read-into-one;
   move-into = move-into-one;
 }
+
+pub demand-1 : Demand1
+demand-1 = record { entries = entries-one; row-empty = λ s table i part k c. empty-iff s table i part k (c .0) (c .1) }

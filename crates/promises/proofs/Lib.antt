@@ -1,4 +1,5 @@
--- The three demands, proved. Assumes nothing.
+-- The three demands, proved, and that number 12 is not used. Assumes nothing.
 pub mod FirstDemand
+pub mod Unused
 pub mod SecondDemand
 pub mod ThirdDemand

@@ -67,6 +67,6 @@ pub fn assert_seen(mut seen: Vec<u8>, numbers: &[u8]) {
     assert_eq!(seen, numbers, "the refusals that came up");
 }
 
-/// The refusals of a nest given as numbers. 12 never comes up: a zero time vector has an inner
-/// product of 0 with every dependence, which 11 refuses first.
+/// The refusals of a nest given as numbers. 12 is not used: a zero time vector has an inner product
+/// of 0 with every dependence, which is 11.
 pub const OF_NESTS: &[u8] = &[2, 3, 4, 5, 6, 7, 8, 9, 10, 11, 13];

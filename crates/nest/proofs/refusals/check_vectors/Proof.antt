@@ -3,36 +3,29 @@ use Rattle.nest.specs.declared.LoopNest.{LoopNest}
 use mathlib.Core.Path.{_≡_, sym, _∙_, ap, refl}
 use mathlib.Core.Bool.{false}
 use mathlib.Core.List.{List, [], _∷_}
-use native.Mathlib.Omega.{arith}
 use lib.IntN.{pos}
 use lib.Signed.{ltZ}
 use borrow.Author.Needs.{needs}
-use mir.Syntax.{w64}
-use mir.Val.{ofZ}
-use mir.Facts.{sfits-lit}
 use Rattle.integers.specs.Lists.{any, repeats, tab}
-use Rattle.integers.proofs.Tests.{same}
 use Rattle.integers.specs.Vector.{Vector, dots, eqV}
-use Rattle.integers.proofs.Vector.{eqZ-same, eqZ-other}
 use Rattle.nest.specs.Nest.{part, timeOf, dependenceAt, dependencesOf, nestFrom, toℕ}
-use Rattle.nest.specs.Refusals.{Refusal, outOfSpan, backward, badTime, badDependence, backwardDependence, equalDependences, againstTime, zeroTime, number, holds, firstMet, vectorOrder}
+use Rattle.nest.specs.Refusals.{Refusal, outOfSpan, backward, badTime, badDependence, backwardDependence, equalDependences, againstTime, number, holds, firstMet, vectorOrder}
 use Rattle.nest.proofs.FirstMet.{met, passed}
-use Rattle.nest.proofs.Vectors.{both-small}
 use Rattle.nest.proofs.refusals.check_vectors.Statement.{statement}
 use Rattle.nest.proofs.refusals.check_vectors.Tie as tie
 
 -- the order from each refusal on
 abbrev from8 : List Refusal
-from8 = badDependence ∷ backwardDependence ∷ equalDependences ∷ againstTime ∷ zeroTime ∷ []
+from8 = badDependence ∷ backwardDependence ∷ equalDependences ∷ againstTime ∷ []
 
 abbrev from9 : List Refusal
-from9 = backwardDependence ∷ equalDependences ∷ againstTime ∷ zeroTime ∷ []
+from9 = backwardDependence ∷ equalDependences ∷ againstTime ∷ []
 
 abbrev from10 : List Refusal
-from10 = equalDependences ∷ againstTime ∷ zeroTime ∷ []
+from10 = equalDependences ∷ againstTime ∷ []
 
 abbrev from11 : List Refusal
-from11 = againstTime ∷ zeroTime ∷ []
+from11 = againstTime ∷ []
 
 -- the function's start, from behind each test
 abbrev start1 : tie.Else1 → tie.Start
@@ -92,9 +85,6 @@ against-test c =
     ∙ ap (λ (P : Vector). any (λ d. ltZ (dots P d) (pos 1)) (tab (dependenceAt (s .args .dependences .now) (s .args .n)) (s .args .m))) (timed s)
     ∙ ap (any (λ d. ltZ (dots (timeOf (nest s)) d) (pos 1))) (listed s))
 
-product : (c : tie.After-inner-product) → dots (timeOf (nest (start5 (c .before)))) (timeOf (nest (start5 (c .before)))) ≡ c .inner-product .result
-product c = let s = start5 (c .before) in sym (c .inner-product .ensures ∙ ap (λ (P : Vector). dots P P) (timed s))
-
 -- each refusal in turn is passed
 passed7 : (c : tie.Else1) → firstMet (nest (start1 c)) vectorOrder ≡ firstMet (nest (start1 c)) from8
 passed7 c = passed (nest (start1 c)) badTime from8 (time-test (c .before) ∙ c .if1 .left)
@@ -108,8 +98,8 @@ passed9 c = passed8 (c .before .before) ∙ passed (nest (start3 c)) backwardDep
 passed10 : (c : tie.Else4) → firstMet (nest (start4 c)) vectorOrder ≡ firstMet (nest (start4 c)) from11
 passed10 c = passed9 (c .before .before) ∙ passed (nest (start4 c)) equalDependences from11 (equal-test (c .before) ∙ c .if4 .left)
 
-passed11 : (c : tie.Else5) → firstMet (nest (start5 c)) vectorOrder ≡ firstMet (nest (start5 c)) (zeroTime ∷ [])
-passed11 c = passed10 (c .before .before) ∙ passed (nest (start5 c)) againstTime (zeroTime ∷ []) (against-test (c .before) ∙ c .if5 .left)
+passed11 : (c : tie.Else5) → firstMet (nest (start5 c)) vectorOrder ≡ firstMet (nest (start5 c)) []
+passed11 c = passed10 (c .before .before) ∙ passed (nest (start5 c)) againstTime [] (against-test (c .before) ∙ c .if5 .left)
 
 -- what the products ask for
 time-fine : (c : tie.Else1) → outOfSpan (part (start1 c .args .time .now) 0 (start1 c .args .n)) ≡ false
@@ -157,27 +147,11 @@ any-against-requires c κs =
 
 returns-5 : tie.Need-returns-5
 unfolding number
-returns-5 c = sym (passed10 (c .before .before) ∙ met (nest (start4 (c .before .before))) againstTime (zeroTime ∷ []) (against-test (c .before) ∙ c .if5 .taken))
-
-inner-product-requires : tie.Need-inner-product-requires
-inner-product-requires c κs =
-    let s = start5 c in
-    let h = time-fine (c .before .before .before .before .before .before .before .before) in
-    ((s .pre .0, s .pre .1, omega (arith, s .pre .1)), both-small (s .args .time .now) (s .args .time .now) 0 (s .args .n) h h)
+returns-5 c = sym (passed10 (c .before .before) ∙ met (nest (start4 (c .before .before))) againstTime [] (against-test (c .before) ∙ c .if5 .taken))
 
 returns-6 : tie.Need-returns-6
-unfolding number holds
-returns-6 c =
-    let s = nest (start5 (c .before .before)) in
-    let z = c .before .inner-product .result in
-    let e : z ≡ pos 0 = same (record { sfits = c .before .inner-product .ok }) (sfits-lit {w = w64} {z = pos 0} tt) (c .if6 .taken) in
-    sym (passed11 (c .before .before) ∙ met s zeroTime [] (eqZ-same (dots (timeOf s) (timeOf s)) (pos 0) (product (c .before) ∙ e)))
-
-returns-7 : tie.Need-returns-7
-unfolding firstMet holds
-returns-7 c =
-    let s = nest (start5 (c .before .before)) in
-    sym (passed11 (c .before .before) ∙ passed s zeroTime [] (eqZ-other (dots (timeOf s) (timeOf s)) (pos 0) (λ e. c .if6 .left (ap (ofZ w64) (sym (product (c .before)) ∙ e)))))
+unfolding firstMet
+returns-6 c = sym (passed11 c)
 
 pub check-vectors-spec : {M : Type 1} → statement M
 check-vectors-spec =
@@ -194,6 +168,4 @@ check-vectors-spec =
     returns-4
     any-against-requires
     returns-5
-    inner-product-requires
-    returns-6
-    returns-7)
+    returns-6)
