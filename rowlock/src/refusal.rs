@@ -110,7 +110,7 @@ mod tests {
 
     #[test]
     fn a_number_that_is_not_used_has_no_name() {
-        assert_eq!(Refusal(NOT_USED).words(), Refusal(20).words());
+        assert_eq!(Refusal(NOT_USED).words(), Refusal(0).words());
         assert!(!include_str!("../../c/rowlock.h").contains(&format!(" = {NOT_USED},")));
     }
 

@@ -5,12 +5,11 @@ ghost use mathlib.Core.Path.{_≡_};
 ghost use mathlib.Core.Bool.{false};
 ghost use Prim.Native.Nat.{ℕ, _+_, _*_, _<_, _≤_};
 ghost use lib.IntN.{pos, natAbs};
-ghost use lib.Signed.{ltZ};
 ghost use lib.ListN.{length, getD};
 ghost use Rattle.integers.specs.Lists.{any, repeats, tab};
 ghost use Rattle.integers.specs.Vector.{dots, eqV};
 ghost use Rattle.nest.specs.Nest.{part, limitAt, dependenceAt, maxDepth, maxLimit, maxComponent};
-ghost use Rattle.nest.specs.Refusals.{outside, crossed, outOfSpan, backward};
+ghost use Rattle.nest.specs.Refusals.{outside, crossed, outOfSpan, backward, against};
 
 // Whether x is not from low to high.
 pub fn is_outside(low: i64, high: i64, x: i64) -> bool
@@ -174,7 +173,7 @@ pub fn any_against(time: &[i64], dependences: &[i64], n: usize, m: usize) -> boo
     requires { ⌜ (n ≤ maxDepth) × (n ≤ length (now time)) × (m * maxDepth ≤ length (now dependences)) ⌝ }
     requires { ⌜ (outOfSpan (part (now time) 0 n) ≡ false)
         × (any outOfSpan (tab (dependenceAt (now dependences) n) m) ≡ false) ⌝ }
-    ensures { λ r. ⌜ r ≡ any (λ d. ltZ (dots (part (now (time .entry)) 0 n) d) (pos 1))
+    ensures { λ r. ⌜ r ≡ any (against (part (now (time .entry)) 0 n))
         (tab (dependenceAt (now (dependences .entry)) n) m) ⌝ }
 {
     for i in 0..m {

@@ -1,7 +1,7 @@
 -- Number 12 is not used (document 02, U8): an entry's one outcome has the number 0 or that of one of its refusals, and 12 is none of these. That its condition cannot come up
 -- is `nest` Twelve.
 -- Assumes nothing.
-use mathlib.Core.Path.{_≡_, refl, sym, ap, _∙_, subst}
+use mathlib.Core.Path.{_≡_, refl, sym, ap, _∙_}
 use mathlib.Core.Bool.{false}
 use mathlib.Core.List.{List, _∷_}
 use Prim.Native.Nat.{ℕ}

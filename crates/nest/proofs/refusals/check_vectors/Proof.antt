@@ -4,12 +4,11 @@ use mathlib.Core.Path.{_≡_, sym, _∙_, ap, refl}
 use mathlib.Core.Bool.{false}
 use mathlib.Core.List.{List, [], _∷_}
 use lib.IntN.{pos}
-use lib.Signed.{ltZ}
 use borrow.Author.Needs.{needs}
 use Rattle.integers.specs.Lists.{any, repeats, tab}
-use Rattle.integers.specs.Vector.{Vector, dots, eqV}
+use Rattle.integers.specs.Vector.{Vector, eqV}
 use Rattle.nest.specs.Nest.{part, timeOf, dependenceAt, dependencesOf, nestFrom, toℕ}
-use Rattle.nest.specs.Refusals.{Refusal, outOfSpan, backward, badTime, badDependence, backwardDependence, equalDependences, againstTime, number, holds, firstMet, vectorOrder}
+use Rattle.nest.specs.Refusals.{Refusal, outOfSpan, backward, against, badTime, badDependence, backwardDependence, equalDependences, againstTime, number, holds, firstMet, vectorOrder}
 use Rattle.nest.proofs.FirstMet.{met, passed}
 use Rattle.nest.proofs.refusals.check_vectors.Statement.{statement}
 use Rattle.nest.proofs.refusals.check_vectors.Tie as tie
@@ -82,8 +81,8 @@ against-test c =
     let s = start4 (c .before) in
     sym
     (c .any-against .ensures
-    ∙ ap (λ (P : Vector). any (λ d. ltZ (dots P d) (pos 1)) (tab (dependenceAt (s .args .dependences .now) (s .args .n)) (s .args .m))) (timed s)
-    ∙ ap (any (λ d. ltZ (dots (timeOf (nest s)) d) (pos 1))) (listed s))
+    ∙ ap (λ (P : Vector). any (against P) (tab (dependenceAt (s .args .dependences .now) (s .args .n)) (s .args .m))) (timed s)
+    ∙ ap (any (against (timeOf (nest s)))) (listed s))
 
 -- each refusal in turn is passed
 passed7 : (c : tie.Else1) → firstMet (nest (start1 c)) vectorOrder ≡ firstMet (nest (start1 c)) from8
