@@ -12,7 +12,7 @@ use Rattle.integers.specs.Lists.{any, tab, repeats}
 use Rattle.integers.specs.Vector.{dots, eqZ, eqV}
 use Rattle.nest.specs.Nest.{toℕ, part, limitsOf, timeOf, dependencesOf, weightsOf, padded, nestOf}
 use Rattle.nest.specs.Points.{extent, indices, points, pointsOf, pointCount}
-use Rattle.nest.specs.Refusals.{number, outside, crossed, outOfSpan, backward, holds, firstMet, refusal}
+use Rattle.nest.specs.Refusals.{number, outside, crossed, outOfSpan, backward, against, holds, firstMet, refusal}
 use Rattle.sequential.specs.Sequential.{Rule}
 use Rattle.planner.specs.Examples.{vector, listed}
 use Rattle.execution.specs.Rules.{every, Move}
@@ -24,7 +24,7 @@ use Rattle.execution.proofs.Demand.{run-outcome}
 
 -- the nest is accepted
 example-accepted : refusal listed ≡ 0
-unfolding any tab repeats dots eqZ eqV toℕ part limitsOf timeOf dependencesOf weightsOf padded nestOf extent indices points pointsOf pointCount number outside crossed outOfSpan backward holds firstMet refusal vector listed flatMap
+unfolding any tab repeats dots eqZ eqV toℕ part limitsOf timeOf dependencesOf weightsOf padded nestOf extent indices points pointsOf pointCount number outside crossed outOfSpan backward against holds firstMet refusal vector listed flatMap
 example-accepted = refl
 
 -- it has six iterations

@@ -11,8 +11,8 @@ use Rattle.integers.specs.Vector.{dots, plus, times, eqZ, eqV, isZeroV}
 use Rattle.integers.specs.Division.{floorDiv}
 use Rattle.nest.specs.Nest.{toℕ, part, limitsOf, timeOf, dependencesOf, weightsOf, padded, nestOf}
 use Rattle.nest.specs.Points.{extent, indices, points, pointsOf, pointCount, rank, isPoint, source}
-use Rattle.nest.specs.Refusals.{number, outside, crossed, outOfSpan, backward, holds, firstMet, refusal, orElse}
-use Rattle.nest.specs.Refusals.{shortBuffer}
+use Rattle.nest.specs.Refusals.{number, outside, crossed, outOfSpan, backward, against, holds, firstMet}
+use Rattle.nest.specs.Refusals.{refusal, orElse, shortBuffer}
 use Rattle.nest.specs.Sources.{sourceRank}
 use Rattle.grouping.specs.Projection.{projection, divides, makesWhole, multiplier, groupSize}
 use Rattle.integers.specs.Extremes.{leastZ, greatestZ}
@@ -78,7 +78,7 @@ example-allowed = refl
 pub example-answers : answers (ruleOf listed) listed exampleLayout exampleState exampleMoves ≡ exampleAnswers
 unfolding any place count tab dots plus times eqZ eqV toℕ part limitsOf timeOf dependencesOf weightsOf padded
     nestOf extent indices points pointsOf pointCount rank isPoint source number outside crossed outOfSpan backward
-    holds firstMet refusal repeats orElse shortBuffer sourceRank crosses isMessage sourceValue valueOf total
+    against holds firstMet refusal repeats orElse shortBuffer sourceRank crosses isMessage sourceValue valueOf total
     weightedSum ruleOf vector listed flatMap zipWith every better least taking delivering effect moveRefusal
     moveEffect
 example-answers = refl
@@ -91,7 +91,7 @@ pub example-run : run (ruleOf listed) listed exampleLayout exampleState exampleM
 }
 unfolding any place count tab dots plus times eqZ eqV toℕ part limitsOf timeOf dependencesOf weightsOf padded
     nestOf extent indices points pointsOf pointCount rank isPoint source number outside crossed outOfSpan backward
-    holds firstMet refusal repeats orElse shortBuffer sourceRank crosses isMessage sourceValue valueOf total
+    against holds firstMet refusal repeats orElse shortBuffer sourceRank crosses isMessage sourceValue valueOf total
     weightedSum ruleOf vector listed flatMap zipWith every better least taking delivering effect moveRefusal
     moveEffect
 example-run = refl

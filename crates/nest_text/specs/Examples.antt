@@ -12,7 +12,7 @@ use Rattle.integers.specs.Lists.{all, any, first, tab, repeats}
 use Rattle.integers.specs.Vector.{dots, eqZ, eqV}
 use Rattle.nest.specs.Nest.{toℕ, part, limitsOf, timeOf, dependencesOf, weightsOf, padded, nestOf, emptyNest}
 use Rattle.nest.specs.Points.{extent, pointCount}
-use Rattle.nest.specs.Refusals.{number, outside, crossed, outOfSpan, backward, holds, firstMet, orElse}
+use Rattle.nest.specs.Refusals.{number, outside, crossed, outOfSpan, backward, against, holds, firstMet, orElse}
 use Rattle.nest_text.specs.Fields.{Bytes, newline, space, blanksOf, allDigits, valueOf, digitsOf, signedOf}
 use Rattle.nest_text.specs.Fields.{readOf}
 use Rattle.nest_text.specs.Text.{isLine, numbersOf, areLines, lineNumbers, widths, shapes, fits, firstFitting}
@@ -100,7 +100,7 @@ cases =
 -- each text is answered so
 pub answers-are : all (λ c. eqb (readRefusal (c .text)) (c .answer)) cases ≡ true
 unfolding all any first tab repeats dots eqZ eqV toℕ part limitsOf timeOf dependencesOf weightsOf padded nestOf
-    emptyNest extent pointCount number outside crossed outOfSpan backward holds firstMet orElse blanksOf
+    emptyNest extent pointCount number outside crossed outOfSpan backward against holds firstMet orElse blanksOf
     allDigits valueOf digitsOf signedOf readOf isLine numbersOf areLines lineNumbers widths shapes fits
     firstFitting isHeaded headerWidthOf headerNumbers headed headerOf restOf isShaped bodyNumbers nestFrom
     bodyOf readRefusal bytes lines oneLoop plain unended listed cases flatMap

@@ -18,7 +18,8 @@ use Rattle.integers.specs.Division.{floorDiv}
 use Rattle.nest.specs.declared.LoopNest.{LoopNest}
 use Rattle.nest.specs.Nest.{toℕ, part, limitsOf, timeOf, dependencesOf, weightsOf, padded, nestOf, emptyNest, countOf}
 use Rattle.nest.specs.Points.{extent, indices, points, pointsOf, pointCount, rank, isPoint, source}
-use Rattle.nest.specs.Refusals.{number, outside, crossed, outOfSpan, backward, holds, firstMet, refusal, orElse}
+use Rattle.nest.specs.Refusals.{number, outside, crossed, outOfSpan, backward, against, holds, firstMet}
+use Rattle.nest.specs.Refusals.{refusal, orElse}
 use Rattle.nest.specs.Sources.{sourceRank}
 use Rattle.nest_text.specs.Fields.{Bytes, blanksOf, allDigits, valueOf, digitsOf, signedOf, readOf, digitsTo, numeralOf}
 use Rattle.nest_text.specs.Fields.{fieldOf}
@@ -245,8 +246,8 @@ table =
 pub examples-hold : all (λ c. all (says (c .nest)) (c .facts)) table ≡ true
 unfolding any all first place firstsAfter firsts count repeats tab greatest firstFrom dots plus times eqZ eqV
     isZeroV floorDiv toℕ part limitsOf timeOf dependencesOf weightsOf padded nestOf emptyNest extent indices points
-    pointsOf pointCount rank isPoint source number outside crossed outOfSpan backward holds firstMet refusal orElse
-    sourceRank blanksOf allDigits valueOf digitsOf signedOf readOf digitsTo numeralOf fieldOf line linesOf isLine
+    pointsOf pointCount rank isPoint source number outside crossed outOfSpan backward against holds firstMet refusal
+    orElse sourceRank blanksOf allDigits valueOf digitsOf signedOf readOf digitsTo numeralOf fieldOf line linesOf isLine
     numbersOf areLines lineNumbers widths shapes fits firstFitting isHeaded headerWidthOf headerNumbers headed
     headerOf restOf isShaped bodyNumbers nestFrom bodyOf readRefusal readNest textOf bytes lines projection divides
     makesWhole multiplier groupSize leastZ step pivot clear remainder mayGroup groupingVector extend chosenVectors
