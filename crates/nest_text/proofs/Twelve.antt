@@ -1,14 +1,14 @@
 -- Number 12 cannot come up for a text either (document 02, U8): where the nest that it says has a zero time vector, 11 or an earlier refusal is answered.
 -- Assumes nothing.
-use mathlib.Core.List.{List, [], _∷_, _++_, List·Memᴰ·head}
+use mathlib.Core.List.{[], _∷_, _++_, List·Memᴰ·head}
 use mathlib.Core.Logic.{⊎-elim, _↔_, _≢_}
 use mathlib.Core.Path.{refl}
 use Prim.Native.Nat.{ℕ}
 use native.Mathlib.Omega.{arith}
 use Rattle.nest.specs.declared.LoopNest.{LoopNest}
-use Rattle.nest.specs.Refusals.{badCount, againstTime, headerOrder, limitOrder, vectorOrder, weightOrder, Condition, Order, Answered, FromOne, MetAt, numbered}
+use Rattle.nest.specs.Refusals.{badCount, headerOrder, limitOrder, vectorOrder, weightOrder, Condition, Order, Answered, FromOne, MetAt, numbered}
 use Rattle.nest.proofs.Answers.{answered-first, answered-without, numbered-one, one-append}
-use Rattle.nest.proofs.Twelve.{DeadClock, three-or-eleven}
+use Rattle.nest.proofs.Twelve.{ZeroSquare, three-or-eleven}
 use Rattle.nest_text.specs.Fields.{Bytes}
 use Rattle.nest_text.specs.Text.{linesOf, headed, readRefusal}
 use Rattle.nest_text.specs.Form.{Whole, LineMalformed, LineMeets, RestMalformed, NestMeets, readOrder}
@@ -16,8 +16,8 @@ use Rattle.nest_text.proofs.Answers.{read-answered}
 
 module _ (bs : Bytes) where
   -- the condition of 12: the text says a nest whose P·P is 0
-  abbrev pub SaysDeadClock : Type 0
-  SaysDeadClock = (s : LoopNest) × Whole bs s × DeadClock s
+  abbrev pub SaysZeroSquare : Type 0
+  SaysZeroSquare = (s : LoopNest) × Whole bs s × ZeroSquare s
 
   -- the refusals of a text up to 11
   abbrev pub toEleven : Order
@@ -28,7 +28,7 @@ module _ (bs : Bytes) where
 
   -- document 01's order: 12 stands between 11 and 13
   abbrev pub withTwelve : Order
-  withTwelve = toEleven ++ ((12, SaysDeadClock) ∷ numbered (NestMeets bs) weightOrder)
+  withTwelve = toEleven ++ ((12, SaysZeroSquare) ∷ numbered (NestMeets bs) weightOrder)
 
   -- a text that says too few or too many dependences says so in line 1
   line-count : (s : LoopNest) → Whole bs s → Condition s badCount → LineMeets bs badCount
@@ -36,7 +36,7 @@ module _ (bs : Bytes) where
   line-count s w c = (s .depth ∷ s .count ∷ s .cube ∷ [], w .lines-are .0, (List·Memᴰ·head refl, w .lines-are .1), c)
 
   -- where 12 would be met, one before it is
-  earlier : SaysDeadClock → (p : ℕ) × MetAt toEleven p
+  earlier : SaysZeroSquare → (p : ℕ) × MetAt toEleven p
   earlier (s, w, e) = ⊎-elim (λ c. (2, line-count s w c)) (λ c. (11, (s, w, c))) (three-or-eleven s e)
 
   -- none of their numbers is 0
@@ -47,8 +47,8 @@ module _ (bs : Bytes) where
 
   -- with 12 and without it the same is answered, whatever refusals of a call stand behind those of its text
   pub twelve-unused : (behind : Order) (k : ℕ) → Answered (withTwelve ++ behind) k ↔ Answered (readOrder bs ++ behind) k
-  twelve-unused behind k = answered-without 12 SaysDeadClock (numbered (NestMeets bs) weightOrder ++ behind) k toEleven earlier
+  twelve-unused behind k = answered-without 12 SaysZeroSquare (numbered (NestMeets bs) weightOrder ++ behind) k toEleven earlier
 
   -- where 12 would be met, 11 or an earlier number is answered
-  pub dead-clock-answered : SaysDeadClock → Answered toEleven (readRefusal bs) × (readRefusal bs ≢ 0)
-  dead-clock-answered d = answered-first toEleven (numbered (NestMeets bs) weightOrder) (readRefusal bs) from-one (earlier d) (read-answered bs)
+  pub zero-square-answered : SaysZeroSquare → Answered toEleven (readRefusal bs) × (readRefusal bs ≢ 0)
+  zero-square-answered d = answered-first toEleven (numbered (NestMeets bs) weightOrder) (readRefusal bs) from-one (earlier d) (read-answered bs)
