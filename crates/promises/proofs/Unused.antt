@@ -37,16 +37,16 @@ unfolding any
 twelve-unused =
     let one : EveryEntry OneOutcome = demand-1 .entries in
     record {
-      check = λ s. never 12 (one .check s) refl;
-      inspect = λ s. never 12 (one .inspect s) refl;
-      read = λ text. never 12 (one .read text) refl;
-      write = λ s old. never 12 (one .write s old) refl;
-      locate = λ s entries i. never 12 (one .locate s entries i) refl;
-      row = λ s table i. never 12 (one .row s table i) refl;
-      fill = λ s old. never 12 (one .fill s old) refl;
-      plan = λ s old. never 12 (one .plan s old) refl;
-      list = λ text old. never 12 (one .list text old) refl;
-      move = λ s L st mv. never 12 (one .move s L st mv) (move-unlisted mv);
-      read-into = λ text. never 12 (one .read-into text) refl;
-      move-into = λ s L st what. never 12 (one .move-into s L st what) (move-unlisted (moveOf what));
+      check = λ s. never _ (one .check s) refl;
+      inspect = λ s. never _ (one .inspect s) refl;
+      read = λ text. never _ (one .read text) refl;
+      write = λ s old. never _ (one .write s old) refl;
+      locate = λ s entries i. never _ (one .locate s entries i) refl;
+      row = λ s table i. never _ (one .row s table i) refl;
+      fill = λ s old. never _ (one .fill s old) refl;
+      plan = λ s old. never _ (one .plan s old) refl;
+      list = λ text old. never _ (one .list text old) refl;
+      move = λ s L st mv. never _ (one .move s L st mv) (move-unlisted mv);
+      read-into = λ text. never _ (one .read-into text) refl;
+      move-into = λ s L st what. never _ (one .move-into s L st what) (move-unlisted (moveOf what));
     }
