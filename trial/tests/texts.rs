@@ -47,7 +47,7 @@ fn every_damage_of_one_byte_is_read_alike() {
     assert_eq!(compare_reading(&vec![b' '; 1 << 20]), 1);
 }
 
-/// Texts of one, two and three loops with a zero time vector, and whatever else is wrong behind it.
+/// Texts of one, two and three loops with a zero time vector; the last two are also wrong behind it.
 const ZERO_TIMES: [&[u8]; 3] = [
     b"     1     1     0\n     0     3\n     0\n     1\n     0     1\n",
     b"     2     1     0\n     0     3\n     0     3\n     0     0\n     0     1\n     0   256\n",
