@@ -111,7 +111,9 @@ mod tests {
     #[test]
     fn a_number_that_is_not_used_has_no_name() {
         assert_eq!(Refusal(NOT_USED).words(), Refusal(0).words());
-        assert!(!include_str!("../../c/rowlock.h").contains(&format!(" = {NOT_USED},")));
+        let value = format!(" = {NOT_USED}");
+        let header = include_str!("../../c/rowlock.h");
+        assert!(header.lines().all(|line| !line.trim_end_matches(',').ends_with(&value)));
     }
 
     #[test]

@@ -1,6 +1,7 @@
 -- Demand 1 (document 00): whoever calls, with any nest, table or move, gets a plan, a table, a move
 -- done or one refusal from the list; a refusal changes no lent byte. It is said of every entry, by
--- what its contract promises. Assumes nothing.
+-- what its contract promises; and so is that number 12 is not used (document 02, U8).
+-- Assumes nothing.
 use mathlib.Core.Path.{_≡_}
 use mathlib.Core.List.{List, [], _∷_, _++_, List·Memᴰ}
 use mathlib.Core.Logic.{_≢_, _↔_}
