@@ -315,6 +315,10 @@ fn nests_by_name() -> Vec<(&'static str, LoopNest)> {
             set_dependences(nest, dependences);
         })
     };
+    let row_of_64 = changed(with([1, 0], &[&[1, 0]]), |nest| {
+        nest.cube_dimension = 6;
+        nest.upper = vec![0, 63];
+    });
     let p2 = text::read(P2_TEXT.as_bytes()).unwrap();
     let p4 = loop_l2([3, 2, 3]);
     vec![
@@ -332,6 +336,7 @@ fn nests_by_name() -> Vec<(&'static str, LoopNest)> {
         ("P10", one(1000)),
         ("P10-refused", one(1001)),
         ("refused", changed(p2, |nest| nest.time_vector = vec![1, 0])),
+        ("gray", row_of_64),
     ]
 }
 

@@ -161,6 +161,11 @@ module _ {A : Type 0} where
       split (any (λ x. same x (f n)) (tab f n)) (λ t. let r = any-tab-some (λ x. same x (f n)) f n t in (n, r .0, omega arith, r .1, r .2))
       (λ e. split (repeats same (tab f n)) (λ t. let r = repeats-tab-some same f n t in (r .0, r .1, omega (arith, r .2), r .3, r .4)) (λ g. clash h (rw add-one at (repeats-tab-more same f n g e))))
 
+  -- where no two are the same, any two differ
+  pub repeats-tab-each : (same : A → A → Bool) (f : ℕ → A) (n i j : ℕ) → repeats same (tab f n) ≡ false → i < j → j < n → same (f i) (f j) ≡ false
+  repeats-tab-each same f n i j h l k =
+      split (same (f i) (f j)) (λ t. clash (repeats-tab-found same f n j k (any-tab-found (λ x. same x (f j)) f j i l t)) h) (λ e. e)
+
   -- ---- the first place
   -- some entry passes
   pub any-at : (p : A → Bool) (xs : List A) (k : ℕ) (d : A) → k < length xs → p (getD xs k d) ≡ true → any p xs ≡ true

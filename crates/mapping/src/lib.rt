@@ -3,6 +3,7 @@
 mod counts;
 mod dealing;
 mod directions;
+mod gray;
 mod parts;
 mod processors;
 

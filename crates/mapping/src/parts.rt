@@ -1,4 +1,5 @@
 // The parts of a direction and their Gray codes (000, algorithm 2; document 01: cards).
+use crate::gray::gray_of;
 ghost use mathlib.Core.Path.{_≡_};
 ghost use Prim.Native.Nat.{_^_, _<_, _≤_};
 ghost use lib.IntN.{natAbs, _-ℤ_};
@@ -13,13 +14,6 @@ pub fn power(e: u64) -> u64
     ensures { λ r. ⌜ r ≡ 2 ^ e ⌝ }
 {
     1u64 << e
-}
-
-// The Gray code of a part.
-fn gray_of(p: u64) -> u64
-    ensures { λ r. ⌜ r ≡ gray p ⌝ }
-{
-    p ^ (p / 2)
 }
 
 // How far a value is above the least.

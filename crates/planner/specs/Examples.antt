@@ -1,5 +1,5 @@
 -- Serves as examples: P1 to P10 of document 01 ("Mixes to try"), the counts of 000's loops L1 and
--- L2, and two nests worked out by hand, as one table; `examples-hold` checks all of it on the
+-- L2, and three nests worked out by hand, as one table; `examples-hold` checks all of it on the
 -- definitions, by computation. Where a case is silent: limits 0..3, time vector of ones, cube
 -- dimension 0, boundary value and weights 1, and the dependence is 1 in the innermost loop. Assumes
 -- nothing.
@@ -34,6 +34,7 @@ use Rattle.grouping.specs.Grouping.{pivot, clear, remainder, mayGroup, grouping
 use Rattle.grouping.specs.Grouping.{chosenCount, latest, coefficients, left, isCombination, frame, directions}
 use Rattle.grouping.specs.Grouping.{difference, sameClass, coordinates, seeds, eqG, quotients, classNumber, group}
 use Rattle.grouping.specs.Grouping.{blocks, blockNumber}
+use Rattle.mapping.specs.GrayCodes.{grayCodes}
 use Rattle.mapping.specs.Mapping.{inOrder, direction, undealt, takesBit, withBit, noDirection, nextTurn, dealBit}
 use Rattle.mapping.specs.Mapping.{dealBits, dealt, gray, partOf, joined, processor, directionsOf, processorsOf}
 use Rattle.mapping.specs.Mapping.{processorCount, crosses, isMessage, messageCount}
@@ -155,6 +156,12 @@ unfoldable pub uneven : LoopNest
 uneven = nestWith (1 ∷ 5 ∷ 4 ∷ []) (vector (1 ∷ 0 ∷ 0 ∷ []))
     ((pos 1 ∷ negℤ (pos 2) ∷ pos 0 ∷ []) ∷ vector (1 ∷ 0 ∷ 1 ∷ []) ∷ []) 5
 
+-- One row of 64 iterations, each a block of its own, as in `ungrouped`. Widths of q, b and class:
+-- 1, 1, 64. All six bits go to the class: iteration k is part k of it, and its processor the code
+-- that is printed for part k.
+unfoldable pub rowOf64 : LoopNest
+rowOf64 = nestWith (0 ∷ 63 ∷ []) (vector (1 ∷ 0 ∷ [])) (vector (1 ∷ 0 ∷ []) ∷ []) 6
+
 -- document 01's listing in full
 unfoldable pub listed : LoopNest
 listed =
@@ -241,6 +248,11 @@ table =
           ∷ [])
           ∷ [];
     }
+    -- a block for each part of one direction (document 02, U5)
+    ∷ record {
+      nest = rowOf64;
+      facts = answer 0 ∷ iterationBlocks (below 64) ∷ blockProcessors grayCodes ∷ [];
+    }
     ∷ []
 
 pub examples-hold : all (λ c. all (says (c .nest)) (c .facts)) table ≡ true
@@ -256,5 +268,5 @@ unfolding any all first place firstsAfter firsts count repeats tab greatest firs
     greatestZ direction undealt takesBit withBit noDirection nextTurn dealBit dealBits dealt gray partOf joined
     processor directionsOf processorsOf processorCount crosses isMessage total messageCount sourceValue madeOf loop
     sequential weightedSum ruleOf valuesOf countsOf rowOf planLines planText listing eqN below isSome pairs says
-    vector nestWith L1 L2 two one ungrouped uneven listed listedText listedPlan table flatMap zipWith
+    vector nestWith L1 L2 two one ungrouped uneven rowOf64 grayCodes listed listedText listedPlan table flatMap zipWith
 examples-hold = refl
