@@ -50,12 +50,17 @@ fn altered(from: &str, to: &str) -> String {
 #[test]
 fn another_page_is_not_taken_for_it() {
     let codes = due(&answered());
+    let last_row = PAGE.lines().rfind(|line| line.starts_with('|')).expect("a table");
     let pages = [
+        // a code exchanged, one repeated, another digit, a digit short
         altered("| 2 | 3 | 000011 |", "| 2 | 2 | 000010 |"),
-        altered("| 2 | 3 | 000011 |", "| 2 | 3 | 000010 |"),
         altered("| 63 | 32 | 100000 |", "| 63 | 33 | 100001 |"),
+        altered("| 2 | 3 | 000011 |", "| 2 | 3 | 000010 |"),
+        altered("| 0 | 0 | 000000 |", "| 0 | 0 | 00000 |"),
+        // another part, a row left out, one too many, no table
         altered("| 63 | 32 | 100000 |", "| 64 | 32 | 100000 |"),
-        altered("| 0 | 0 | 000000 |", "| 0 | 0 | 0 |"),
+        altered(&format!("{last_row}\n"), ""),
+        altered(last_row, &format!("{last_row}\n{last_row}")),
         String::new(),
     ];
     for page in pages {
