@@ -14,7 +14,7 @@ use Rattle.integers.specs.Lists.{any, repeats, tab}
 use Rattle.integers.proofs.Lists.{clash, split, and-left, and-right, below-or-not, any-tab-each, any-tab-some, repeats-tab-each}
 use Rattle.nest.specs.Nest.{maxCube}
 use Rattle.mapping.specs.Mapping.{gray}
-use Rattle.mapping.specs.GrayCodes.{grayCodes, codeAt, bitOf, OneBitApart, ReadOff}
+use Rattle.mapping.specs.GrayCodes.{grayCodes, codeFor, bitOf, OneBitApart, ReadOff}
 use Rattle.mapping.proofs.Codes.{gray-below}
 
 abbrev itself : ℕ → ℕ
@@ -78,24 +78,24 @@ length-is : length grayCodes ≡ 2 ^ maxCube
 unfolding grayCodes
 length-is = refl
 
-gray-at-each : any (λ p. not (eqb (codeAt grayCodes p) (gray p))) (tab itself (length grayCodes)) ≡ false
+gray-at-each : any (λ p. not (eqb (codeFor grayCodes p) (gray p))) (tab itself (length grayCodes)) ≡ false
 unfolding any tab gray grayCodes
 gray-at-each = refl
 
-none-twice : repeats eqb (tab (codeAt grayCodes) (length grayCodes)) ≡ false
+none-twice : repeats eqb (tab (codeFor grayCodes) (length grayCodes)) ≡ false
 unfolding any repeats tab grayCodes
 none-twice = refl
 
-one-bit-at-each : any (λ p. not (oneBit maxCube (codeAt grayCodes p) (codeAt grayCodes (suc p)))) (tab itself (length grayCodes - 1)) ≡ false
+one-bit-at-each : any (λ p. not (oneBit maxCube (codeFor grayCodes p) (codeFor grayCodes (suc p)))) (tab itself (length grayCodes - 1)) ≡ false
 unfolding any tab bitOf grayCodes
 one-bit-at-each = refl
 
 -- ---- the laws
 
-each-gray : (p : ℕ) → p < length grayCodes → codeAt grayCodes p ≡ gray p
-each-gray p h = eqb-true (codeAt grayCodes p) (gray p) (at-each (λ k. eqb (codeAt grayCodes k) (gray k)) (length grayCodes) gray-at-each p h)
+each-gray : (p : ℕ) → p < length grayCodes → codeFor grayCodes p ≡ gray p
+each-gray p h = eqb-true (codeFor grayCodes p) (gray p) (at-each (λ k. eqb (codeFor grayCodes k) (gray k)) (length grayCodes) gray-at-each p h)
 
-codes-below : (p : ℕ) → p < length grayCodes → codeAt grayCodes p < 2 ^ maxCube
+codes-below : (p : ℕ) → p < length grayCodes → codeFor grayCodes p < 2 ^ maxCube
 codes-below p h = rw (each-gray p h) (gray-below p maxCube (rw length-is at h))
 
 pub read-off : ReadOff grayCodes
@@ -103,8 +103,8 @@ read-off =
     record {
       parts = length-is;
       each = each-gray;
-      once = no-two (codeAt grayCodes) (length grayCodes) none-twice;
+      once = no-two (codeFor grayCodes) (length grayCodes) none-twice;
       neighbours = λ p h.
-          one-bit maxCube (codeAt grayCodes p) (codeAt grayCodes (suc p)) (codes-below p (omega arith)) (codes-below (suc p) h)
-          (at-each (λ k. oneBit maxCube (codeAt grayCodes k) (codeAt grayCodes (suc k))) (length grayCodes - 1) one-bit-at-each p (omega arith));
+          one-bit maxCube (codeFor grayCodes p) (codeFor grayCodes (suc p)) (codes-below p (omega arith)) (codes-below (suc p) h)
+          (at-each (λ k. oneBit maxCube (codeFor grayCodes k) (codeFor grayCodes (suc k))) (length grayCodes - 1) one-bit-at-each p (omega arith));
     }

@@ -20,8 +20,8 @@ grayCodes =
     36 ∷ 37 ∷ 39 ∷ 38 ∷ 34 ∷ 35 ∷ 33 ∷ 32 ∷ []
 
 -- the code that a list has for part p
-abbrev pub codeAt : List ℕ → ℕ → ℕ
-codeAt codes p = getD codes p 0
+abbrev pub codeFor : List ℕ → ℕ → ℕ
+codeFor codes p = getD codes p 0
 
 -- bit k of a number, bit 0 the lowest
 unfoldable pub bitOf : ℕ → ℕ → ℕ
@@ -38,8 +38,8 @@ pub record ReadOff (codes : List ℕ) : Type 0 where
   -- it has a code for each part that a direction can have
   pub parts : length codes ≡ 2 ^ maxCube
   -- each is document 01's exclusive-or
-  pub each : (p : ℕ) → p < length codes → codeAt codes p ≡ gray p
+  pub each : (p : ℕ) → p < length codes → codeFor codes p ≡ gray p
   -- no code stands twice
-  pub once : (p q : ℕ) → p < length codes → q < length codes → codeAt codes p ≡ codeAt codes q → p ≡ q
+  pub once : (p q : ℕ) → p < length codes → q < length codes → codeFor codes p ≡ codeFor codes q → p ≡ q
   -- the codes of parts one apart differ in exactly one bit
-  pub neighbours : (p : ℕ) → suc p < length codes → OneBitApart (codeAt codes p) (codeAt codes (suc p))
+  pub neighbours : (p : ℕ) → suc p < length codes → OneBitApart (codeFor codes p) (codeFor codes (suc p))

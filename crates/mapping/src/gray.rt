@@ -4,13 +4,13 @@ ghost use mathlib.Core.Path.{_≡_};
 ghost use Prim.Native.Nat.{_^_, _<_};
 ghost use Rattle.nest.specs.Nest.{maxCube};
 ghost use Rattle.mapping.specs.Mapping.{gray};
-ghost use Rattle.mapping.specs.GrayCodes.{grayCodes, codeAt};
+ghost use Rattle.mapping.specs.GrayCodes.{grayCodes, codeFor};
 
 // The Gray code of a part. A direction has at most 64 parts, so the last case is part 63 and no
 // other.
 pub fn gray_of(p: u64) -> u64
     requires { ⌜ p < 2 ^ maxCube ⌝ }
-    ensures { λ r. ⌜ (r ≡ codeAt grayCodes p) × (r ≡ gray p) ⌝ }
+    ensures { λ r. ⌜ (r ≡ codeFor grayCodes p) × (r ≡ gray p) ⌝ }
 {
     match p {
         0 => 0,

@@ -4,7 +4,7 @@ ghost use mathlib.Core.Path.{_≡_};
 ghost use Prim.Native.Nat.{_^_, _<_, _≤_};
 ghost use lib.IntN.{natAbs, _-ℤ_};
 ghost use lib.Signed.{_≤ℤ_};
-ghost use Rattle.nest.specs.Nest.{toℕ};
+ghost use Rattle.nest.specs.Nest.{toℕ, maxCube};
 ghost use Rattle.mapping.specs.Mapping.{gray, partOf};
 ghost use Rattle.mapping.specs.GroupNumbers.{maxNumber, InWidth};
 
@@ -26,7 +26,8 @@ pub fn height(least: i64, value: i64) -> u64
 
 // The part of a value in a direction. A direction without a bit has one part, part 0.
 fn part_of(value: i64, least: i64, width: u64, bits: u64) -> u64
-    requires { ⌜ InWidth (record { least = least; width = width; bits = bits }) value ⌝ }
+    requires { ⌜ (natAbs least ≤ maxNumber) × (natAbs value ≤ maxNumber) × (bits ≤ maxCube)
+        × InWidth (record { least = least; width = width; bits = bits }) value ⌝ }
     ensures { λ r. ⌜ r ≡ partOf (record { least = least; width = width; bits = bits }) value ⌝ }
 {
     if bits == 0 {
@@ -37,7 +38,8 @@ fn part_of(value: i64, least: i64, width: u64, bits: u64) -> u64
 
 // The Gray code of a value's part in a direction.
 pub fn code_of(value: i64, least: i64, width: u64, bits: u64) -> u64
-    requires { ⌜ InWidth (record { least = least; width = width; bits = bits }) value ⌝ }
+    requires { ⌜ (natAbs least ≤ maxNumber) × (natAbs value ≤ maxNumber) × (bits ≤ maxCube)
+        × InWidth (record { least = least; width = width; bits = bits }) value ⌝ }
     ensures { λ r. ⌜ r ≡ gray (partOf (record { least = least; width = width; bits = bits }) value) ⌝ }
 {
     gray_of(part_of(value, least, width, bits))

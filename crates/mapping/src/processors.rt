@@ -9,14 +9,13 @@ use nest::LoopNest;
 ghost use mathlib.Core.Path.{_≡_};
 ghost use mathlib.Core.List.{_++_};
 ghost use Prim.Native.Nat.{ℕ, _+_, _<_, _≤_};
-ghost use lib.IntN.{pos, natAbs, _-ℤ_};
+ghost use lib.IntN.{pos, natAbs};
 ghost use lib.ListN.{length, getD, drop};
-ghost use lib.Signed.{_≤ℤ_};
 ghost use Rattle.integers.specs.Lists.{tab, count};
-ghost use Rattle.nest.specs.Nest.{toℕ, maxDepth, maxCube, maxIterations};
+ghost use Rattle.nest.specs.Nest.{maxDepth, maxCube, maxIterations};
 ghost use Rattle.mapping.specs.Mapping.{bitsOf, gray, partOf, joined};
 ghost use Rattle.mapping.specs.GroupNumbers.{maxNumber, valuesIn, numberAt, columnOf, RowsInSpan, processorsIn};
-ghost use Rattle.mapping.specs.GroupNumbers.{heldAt, held, Fits};
+ghost use Rattle.mapping.specs.GroupNumbers.{heldAt, held, InWidth, Fits};
 
 // The code of row k's value in direction j.
 fn code_at(
@@ -29,8 +28,7 @@ fn code_at(
 ) -> u64
     requires { ⌜ (k < maxIterations) × (j < maxDepth) × RowsInSpan (now rows) (k + 1) × (getD bits j 0 ≤ maxCube) ⌝ }
     requires { ⌜ (natAbs (getD least j (pos 0)) ≤ maxNumber)
-        × (getD least j (pos 0) ≤ℤ numberAt (now rows) (columnOf j) k)
-        × (toℕ (numberAt (now rows) (columnOf j) k -ℤ getD least j (pos 0)) < getD width j 0) ⌝ }
+        × InWidth (heldAt least width bits j) (numberAt (now rows) (columnOf j) k) ⌝ }
     ensures { λ r. ⌜ r ≡ gray (partOf (heldAt least width bits j) (numberAt (now (rows .entry)) (columnOf j) k)) ⌝ }
 {
     code_of(rows[k * ROW + column_of(j)], least[j], width[j], bits[j])

@@ -1,6 +1,6 @@
 -- `spans_in` meets its contract. The loop's invariant: the first j directions are in the arrays. Assumes nothing.
 use mathlib.Core.Path.{refl, ap, _∙_}
-use Prim.Native.Nat.{ℕ, _+_, _-_, _<_}
+use Prim.Native.Nat.{_-_, _<_}
 use native.Mathlib.Omega.{arith}
 use Rattle.integers.proofs.Bounds.{told}
 use Rattle.nest.specs.Nest.{maxDepth}

@@ -3,16 +3,16 @@ use mathlib.Core.Path.{_≡_, sym, ap, _∙_}
 use Prim.Native.Nat.{ℕ, zero, suc, _≤_, zero-le}
 use native.Mathlib.Omega.{arith}
 use Rattle.mapping.specs.Mapping.{gray}
-use Rattle.mapping.specs.GrayCodes.{grayCodes, codeAt}
+use Rattle.mapping.specs.GrayCodes.{grayCodes, codeFor}
 use Rattle.mapping.proofs.GrayLaws.{read-off}
 use Rattle.mapping.proofs.gray.gray_of.Statement.{statement}
 use Rattle.mapping.proofs.gray.gray_of.Tie as tie
 
 -- the case of part k
-case : (k : ℕ) (c : tie.Start) → c .args .p ≡ k → (codeAt grayCodes k ≡ codeAt grayCodes (c .args .p)) × (codeAt grayCodes k ≡ gray (c .args .p))
+case : (k : ℕ) (c : tie.Start) → c .args .p ≡ k → (codeFor grayCodes k ≡ codeFor grayCodes (c .args .p)) × (codeFor grayCodes k ≡ gray (c .args .p))
 case k c e =
     let p = c .args .p in
-    let entry : codeAt grayCodes k ≡ codeAt grayCodes p = ap (codeAt grayCodes) (sym e) in
+    let entry : codeFor grayCodes k ≡ codeFor grayCodes p = ap (codeFor grayCodes) (sym e) in
     (entry, entry ∙ read-off .each p (rw (read-off .parts) (c .pre)))
 
 -- p is none of 0, 1, .., n - 1, as the last case has it

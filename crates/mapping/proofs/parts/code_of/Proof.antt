@@ -27,7 +27,7 @@ part-is c = let d = c .before in rw (toZ-ofZ (d .fits .value), toZ-ofZ (d .fits 
 gray-of-requires : tie.Need-gray-of-requires
 gray-of-requires c κs =
     let d = c .before in
-    rw (part-is c) (lt-of-lt-of-le (part-below (directionOf d) (d .args .value) (d .pre .3)) (pow-mono {i = d .args .bits} {j = maxCube} (d .pre .4)))
+    rw (part-is c) (lt-of-lt-of-le (part-below (directionOf d) (d .args .value) (d .pre .3 .1)) (pow-mono {i = d .args .bits} {j = maxCube} (d .pre .2)))
 
 returns : tie.Need-returns
 returns c = c .gray-of .ensures .1 ∙ ap gray (part-is (c .before))

@@ -31,14 +31,14 @@ product c =
     let v = d .args .value in
     let l = d .args .least in
     let a = abs-sub v l (d .pre .1) (d .pre .0) in
-    let order = d .pre .2 in
+    let order = d .pre .3 .0 in
     let s = size-is (v -ℤ l) (omega (ints, dif v l)) in
-    let p : c .power .result ≤ 2 ^ maxCube = (let m = pow-mono {i = d .args .bits} {j = maxCube} (d .pre .4) in omega (arith, c .power .ensures, m)) in
+    let p : c .power .result ≤ 2 ^ maxCube = (let m = pow-mono {i = d .args .bits} {j = maxCube} (d .pre .2) in omega (arith, c .power .ensures, m)) in
     let h : c .before .height .result ≤ maxNumber + maxNumber = omega (arith, height-is (c .before), a, s) in
     mul-le-mul h p
 
 height-requires : tie.Need-height-requires
-height-requires c κs = let d = c .before in rw (toZ-ofZ (d .fits .value), toZ-ofZ (d .fits .least)) (d .pre .0, d .pre .1, d .pre .2)
+height-requires c κs = let d = c .before in rw (toZ-ofZ (d .fits .value), toZ-ofZ (d .fits .least)) (d .pre .0, d .pre .1, d .pre .3 .0)
 
 power-requires : tie.Need-power-requires
 power-requires c κs = search needs
@@ -55,7 +55,7 @@ returns c =
     let a = c .before .args in
     let d : Direction = record { least = a .least; width = a .width; bits = a .bits } in
     let no-bit : a .bits ≡ 0 = search needs in
-    let one : partOf d (a .value) < 2 ^ 0 = subst (λ e. partOf d (a .value) < 2 ^ e) no-bit (part-below d (a .value) (c .before .pre .3)) in
+    let one : partOf d (a .value) < 2 ^ 0 = subst (λ e. partOf d (a .value) < 2 ^ e) no-bit (part-below d (a .value) (c .before .pre .3 .1)) in
     let none : partOf d (a .value) ≡ 0 = omega (arith, one) in
     sym none
 

@@ -1,6 +1,6 @@
 -- `code_at` meets its contract. Assumes nothing.
-use mathlib.Core.Path.{_≡_, ap, ap₂, _∙_}
-use Prim.Native.Nat.{ℕ, _+_, _<_}
+use mathlib.Core.Path.{ap, ap₂, _∙_}
+use Prim.Native.Nat.{ℕ, _<_}
 use native.Mathlib.Omega.{arith}
 use lib.IntN.{ℤ, pos}
 use lib.ListN.{getD}
@@ -58,10 +58,11 @@ array-read-code-of-2 : tie.Need-array-read-code-of-2
 array-read-code-of-2 c = search needs
 
 code-of-requires : tie.Need-code-of-requires
+unfolding heldAt
 code-of-requires c κs =
     let d = c .before .before .before in
     rw (told (least d) (c .code-of-arg2 .given), told (number d (c .before .before .column-of .result)) (c .before .code-of-arg .given), c .before .before .column-of .ensures)
-    (d .pre .1 .0, d .pre .0 .2 .sized (d .args .k) (columnOf (d .args .j)) (omega arith) (unfold columnOf in turn-below maxDepth (d .args .j) (d .pre .0 .1)), d .pre .1 .1, d .pre .1 .2, d .pre .0 .3)
+    (d .pre .1 .0, d .pre .0 .2 .sized (d .args .k) (columnOf (d .args .j)) (omega arith) (unfold columnOf in turn-below maxDepth (d .args .j) (d .pre .0 .1)), d .pre .0 .3, d .pre .1 .1)
 
 returns : tie.Need-returns
 unfolding heldAt

@@ -70,8 +70,7 @@ code-at-requires c κs =
     let a = d .args in
     let j = c .before .before .loop .j in
     let b = below (c .before) in
-    let f = fit-at (a .least) (a .width) (a .t5) (a .rows .now) (a .k) (d .pre .1 .1) j b in
-    ((d .pre .0 .0, b, d .pre .0 .1, few (c .before)), (d .pre .1 .0 j b, f .0, f .1))
+    ((d .pre .0 .0, b, d .pre .0 .1, few (c .before)), (d .pre .1 .0 j b, fit-at (a .least) (a .width) (a .t5) (a .rows .now) (a .k) (d .pre .1 .1) j b))
 
 add-p : tie.Need-add-p Inv-loop μ-loop
 add-p c = let e = made c in omega (arith, e, next-small (c .before .before))
