@@ -74,6 +74,15 @@ module _ {A : Type 0} where
       go true h = refl
       go false h = h
 
+  -- the first passes, or does not matter
+  pub any-first : (p : A → Bool) (x : A) (xs : List A) → p x ≡ true → any p (x ∷ xs) ≡ true
+  unfolding any
+  any-first p x xs t = rw (t, any) refl
+
+  pub any-past : (p : A → Bool) (x : A) (xs : List A) → p x ≡ false → any p (x ∷ xs) ≡ any p xs
+  unfolding any
+  any-past p x xs f = rw (f, any) refl
+
   pub any-one : (p : A → Bool) (x : A) → any p (x ∷ []) ≡ p x
   unfolding any
   any-one p x = go (p x)

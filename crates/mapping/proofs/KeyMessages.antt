@@ -8,17 +8,17 @@ use native.Mathlib.Omega.{arith}
 use lib.Dec.{eqb, ltb}
 use lib.IntN.{ℤ, pos}
 use lib.ListN.{length, getD, take}
-use Rattle.integers.specs.Lists.{tab, count}
+use Rattle.integers.specs.Lists.{tab, count, oneIf}
 use Rattle.nest.specs.declared.LoopNest.{LoopNest}
 use Rattle.nest.specs.Nest.{countOf}
 use Rattle.nest.specs.Points.{pointsOf}
 use Rattle.sources.specs.Keys.{sourceIn}
 use Rattle.sources.proofs.Cursors.{OfNest, keyed-length, keyed-source}
 use Rattle.mapping.specs.ByKeys.{elsewhereIn, messagesIn}
-use Rattle.mapping.specs.GroupNumbers.{oneIf}
 use Rattle.mapping.specs.Mapping.{isMessage}
-use Rattle.mapping.proofs.Counting.{one-most}
-use Rattle.mapping.proofs.Messages.{message-is, count-none, count-tab-more}
+use Rattle.integers.proofs.Sums.{one-most}
+use Rattle.integers.proofs.Sums.{count-none, count-tab-more}
+use Rattle.mapping.proofs.Messages.{message-is}
 
 -- ---- one dependence after the other
 module _ (keys distances : List ℤ) (ps : List ℕ) (k : ℕ) where

@@ -6,14 +6,13 @@ ghost use Prim.Native.Nat.{ℕ, _^_, _<_, _≤_};
 ghost use lib.Dec.{eqb, ltb};
 ghost use lib.IntN.{pos};
 ghost use lib.ListN.{length, getD, take};
-ghost use Rattle.integers.specs.Lists.{tab, count, firsts, total};
+ghost use Rattle.integers.specs.Lists.{tab, count, firsts, oneIf, total};
 ghost use Rattle.nest.specs.Nest.{countOf, maxDependences, maxCube};
 ghost use Rattle.nest.specs.Points.{pointsOf};
 ghost use Rattle.nest.specs.Refusals.{refusal};
 ghost use Rattle.sources.specs.Keys.{keysOf, Searchable, Behind};
 ghost use Rattle.mapping.specs.ByKeys.{messagesIn};
 ghost use Rattle.mapping.specs.Mapping.{isMessage};
-ghost use Rattle.mapping.specs.GroupNumbers.{oneIf};
 
 // How many processors there are at most.
 const MAX_PROCESSORS: usize = 1 << LoopNest::MAX_CUBE;

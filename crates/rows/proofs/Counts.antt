@@ -4,7 +4,7 @@ use mathlib.Core.Path.{_≡_, refl, sym, ap, _∙_}
 use mathlib.Core.Bool.{Bool, true, false}
 use mathlib.Core.Logic.{⊎-elim}
 use mathlib.Core.List.{List, [], _∷_, map, flatMap}
-use Prim.Native.Nat.{ℕ, zero, suc, _+_, _*_, _-_, _<_, _≤_, min}
+use Prim.Native.Nat.{ℕ, suc, _*_, _<_, _≤_}
 use native.Mathlib.Nat as NatL
 use native.Mathlib.Omega.{arith}
 use borrow.Author.Tests.{lt-ltb, le-ltb, eqb-true, eqb-false}
@@ -14,8 +14,9 @@ use lib.ListN.{length}
 use lib.Signed.{_≤ℤ_, _<ℤ_, ltZ}
 use Rattle.integers.proofs.Linear.{ints, sum}
 use Rattle.integers.proofs.Tests.{signed}
-use Rattle.integers.specs.Lists.{count, tab}
+use Rattle.integers.specs.Lists.{count}
 use Rattle.integers.proofs.Lists.{split, below-or-not, count-yes, count-no, count-append, T-true}
+use Rattle.integers.proofs.Sums.{count-before, count-at}
 use Rattle.integers.specs.Vector.{Vector, eqZ}
 use Rattle.integers.proofs.Vector.{eqZ-same, eqZ-other}
 use Rattle.nest.specs.Nest.{Limit, toℕ}
@@ -46,28 +47,6 @@ module _ (test : ℤ → Bool) where
 
   pub points-count : (l : Limit) (ls : List Limit) → count (λ j. test (outermost j)) (points (l ∷ ls)) ≡ count test (indices l) * pointCount ls
   points-count l ls = unfold points in blocks-count (points ls) (indices l) ∙ ap (λ n. count test (indices l) * n) (point-count ls)
-
--- ---- how many of f 0, f 1, .. pass
-module _ {A : Type 0} (test : A → Bool) (f : ℕ → A) (q : ℕ) where
-  step-yes : (e : ℕ) → test (f e) ≡ true → count test (tab f (suc e)) ≡ count test (tab f e) + 1
-  step-yes e t = unfold tab in count-append test (tab f e) (f e ∷ []) ∙ ap (λ n. count test (tab f e) + n) (count-yes test (f e) [] t ∙ (unfold count in refl))
-
-  step-no : (e : ℕ) → test (f e) ≡ false → count test (tab f (suc e)) ≡ count test (tab f e) + 0
-  step-no e t = unfold tab in count-append test (tab f e) (f e ∷ []) ∙ ap (λ n. count test (tab f e) + n) (count-no test (f e) [] t ∙ (unfold count in refl))
-
-  -- where exactly those before place q pass
-  pub count-before : ((k : ℕ) → test (f k) ≡ ltb k q) → (e : ℕ) → count test (tab f e) ≡ min e q
-  count-before is zero = unfold tab count in omega arith
-  count-before is (suc e) =
-      let h = count-before is e in
-      ⊎-elim (λ (l : e < q). let s = step-yes e (is e ∙ lt-ltb e q l) in omega arith) (λ (l : q ≤ e). let s = step-no e (is e ∙ le-ltb e q l) in omega arith) (below-or-not e q)
-
-  -- where place q alone passes
-  pub count-at : ((k : ℕ) → test (f k) ≡ eqb k q) → (e : ℕ) → count test (tab f e) ≡ min 1 (e - q)
-  count-at is zero = unfold tab count in omega arith
-  count-at is (suc e) =
-      let h = count-at is e in
-      split (eqb e q) (λ t. let s = step-yes e (is e ∙ t) in let z = eqb-true e q t in omega arith) (λ t. let s = step-no e (is e ∙ t) in let z = eqb-false e q t in omega arith)
 
 -- ---- the row of an index within the outermost limits
 module _ (l : Limit) (i : ℤ) (low : l .lower ≤ℤ i) (high : i ≤ℤ l .upper) where

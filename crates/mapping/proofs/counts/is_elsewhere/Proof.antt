@@ -7,7 +7,7 @@ use native.Mathlib.Omega.{arith}
 use borrow.Author.Tests.{lt-ltb, le-ltb, eq-eqb, ne-eqb}
 use lib.Dec.{eqb, ltb}
 use lib.ListN.{getD}
-use Rattle.mapping.specs.GroupNumbers.{oneIf}
+use Rattle.integers.specs.Lists.{oneIf}
 use Rattle.mapping.proofs.counts.is_elsewhere.Statement.{statement}
 use Rattle.mapping.proofs.counts.is_elsewhere.Tie as tie
 

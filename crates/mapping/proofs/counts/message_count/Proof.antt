@@ -19,7 +19,7 @@ use Rattle.sources.specs.Keys.{Behind}
 use Rattle.sources.proofs.Cursors.{OfNest, behind-start, behind-more, keyed-length, keyed-increase, keyed-search}
 use Rattle.mapping.specs.Mapping.{isMessage}
 use Rattle.mapping.proofs.KeyMessages.{keyed-messages}
-use Rattle.mapping.proofs.Messages.{count-most, total-none, total-tab-more, total-most}
+use Rattle.integers.proofs.Sums.{count-most, total-none, total-tab-more, total-most}
 use Rattle.mapping.proofs.counts.message_count.Statement.{statement}
 use Rattle.mapping.proofs.counts.message_count.Tie as tie
 

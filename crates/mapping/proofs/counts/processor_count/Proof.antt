@@ -10,7 +10,8 @@ use lib.ListN.{length, getD, set, take, length-take}
 use lib.Seq.{take-suc}
 use Rattle.integers.specs.Lists.{firsts}
 use Rattle.nest.specs.Nest.{maxCube}
-use Rattle.mapping.proofs.Counting.{Seen, seen-none, seen-more, one-most}
+use Rattle.integers.proofs.Sums.{one-most}
+use Rattle.mapping.proofs.Counting.{Seen, seen-none, seen-more}
 use Rattle.mapping.proofs.counts.processor_count.Statement.{statement}
 use Rattle.mapping.proofs.counts.processor_count.Tie as tie
 

@@ -3,7 +3,7 @@ use mathlib.Core.Path.{_≡_, refl}
 use Prim.Native.Nat.{ℕ}
 use borrow.Author.Tests.{eq-eqb, ne-eqb}
 use lib.Dec.{eqb}
-use Rattle.mapping.specs.GroupNumbers.{oneIf}
+use Rattle.integers.specs.Lists.{oneIf}
 use Rattle.mapping.proofs.counts.unset.Statement.{statement}
 use Rattle.mapping.proofs.counts.unset.Tie as tie
 
