@@ -2,7 +2,7 @@
 -- Assumes nothing.
 use mathlib.Core.Path.{_≡_, refl, sym, ap, ap₂, subst, _∙_}
 use mathlib.Core.Bool.{Bool, true, false, _&&_, _||_}
-use mathlib.Core.Logic.{_≢_, ⊎-elim}
+use mathlib.Core.Logic.{_≢_, ⊎-elim, _↔_}
 use mathlib.Core.Option.{Option, none, some}
 use Prim.Native.Nat.{ℕ, zero, suc, _+_, _*_, _/_, _%_, _^_, _≤_, _<_}
 use native.Mathlib.Nat.{le-trans, not-suc-le-zero, pow-succ', div-div-eq-div-mul, div-eq-of-lt}
@@ -11,11 +11,9 @@ use native.Mathlib.Omega.{arith}
 use lib.Dec.{ltb, eqb}
 use lib.Pow.{pow-mono}
 use borrow.Author.Tests.{ltb-true, ltb-false, eqb-true, eqb-false}
-use Rattle.integers.specs.Lists.{tab, total}
+use Rattle.integers.specs.Lists.{tab, total, oneIf}
 use Rattle.integers.proofs.Lists.{tab-same, split, clash, and-left, and-right, or-true}
-use Rattle.mapping.specs.GroupNumbers.{oneIf}
-use Rattle.mapping.proofs.Counting.{one-yes, one-no}
-use Rattle.mapping.proofs.Messages.{count-tab-more, count-none, total-tab-more, total-none}
+use Rattle.integers.proofs.Sums.{one-yes, one-no, count-tab-more, count-none, total-tab-more, total-none, count-total}
 use Rattle.execution.specs.Rules.{every, better, least}
 use Rattle.execution.specs.Machine.{countBelow}
 use Rattle.execution.specs.Run.{bit}
@@ -71,20 +69,15 @@ sum-zero f (suc n) h = omega (arith, sum-suc f n, sum-zero f n (λ k l. h k (ome
 pub count-suc : (t : ℕ → Bool) (n : ℕ) → countBelow t (suc n) ≡ countBelow t n + oneIf (t n)
 count-suc t n = rw add-one at (count-tab-more t (λ k. k) n)
 
--- a count is a sum
-count-sum : (t : ℕ → Bool) (n : ℕ) → countBelow t n ≡ total (tab (λ k. oneIf (t k)) n)
-count-sum t zero = count-none t (λ k. k) ∙ sym (total-none (λ k. oneIf (t k)))
-count-sum t (suc n) = omega (arith, count-suc t n, sum-suc (λ k. oneIf (t k)) n, count-sum t n)
-
 -- equal tests
 pub count-same : (t u : ℕ → Bool) (n : ℕ) → ((k : ℕ) → k < n → t k ≡ u k) → countBelow t n ≡ countBelow u n
-count-same t u n h = count-sum t n ∙ sum-same (λ k. oneIf (t k)) (λ k. oneIf (u k)) n (λ k l. ap oneIf (h k l)) ∙ sym (count-sum u n)
+count-same t u n h = count-total t n ∙ sum-same (λ k. oneIf (t k)) (λ k. oneIf (u k)) n (λ k l. ap oneIf (h k l)) ∙ sym (count-total u n)
 
 -- one more passes
 pub count-more : (t u : ℕ → Bool) (n k : ℕ) → k < n → t k ≡ false → u k ≡ true → ((j : ℕ) → j ≢ k → u j ≡ t j) → countBelow u n ≡ suc (countBelow t n)
 count-more t u n k l a b h =
     let m = sum-more (λ j. oneIf (t j)) (λ j. oneIf (u j)) n k l (omega (arith, one-no (t k) a, one-yes (u k) b)) (λ j q. ap oneIf (h j q)) in
-    omega (arith, count-sum t n, count-sum u n, m)
+    omega (arith, count-total t n, count-total u n, m)
 
 -- all pass
 pub count-all : (t : ℕ → Bool) (n : ℕ) → ((k : ℕ) → k < n → t k ≡ true) → countBelow t n ≡ n
@@ -212,21 +205,27 @@ least-unique test key n k l = opt (least test key n)
     ) in
     e ∙ ap some q)
 
--- equal keys
-better-same : (n : ℕ) (f g : ℕ → ℕ) (b : Bool) (o : Option ℕ) → ((k : ℕ) → k < suc n → f k ≡ g k) → ((k : ℕ) → o ≡ some k → k < n) → better f n b o ≡ better g n b o
-unfolding better
-better-same n f g false o h l = refl
-better-same n f g true none h l = refl
-better-same n f g true (some k) h l = rw (h n (omega arith), h k (omega (arith, l k refl)), better) refl
+-- keys of one order: what is not less by the one is not less by the other
+at-most : (n : ℕ) (f g : ℕ → ℕ) → ((j k : ℕ) → j < n → k < n → (f j < f k) ↔ (g j < g k)) → (j k : ℕ) → j < n → k < n → (f k ≤ f j) ↔ (g k ≤ g j)
+at-most n f g order j k lj lk = (
+  λ h. split (ltb (g j) (g k)) (λ t. absurd (omega (arith, h, order j k lj lk .1 (ltb-true (g j) (g k) t)))) (λ t. ltb-false (g j) (g k) t),
+  λ h. split (ltb (f j) (f k)) (λ t. absurd (omega (arith, h, order j k lj lk .0 (ltb-true (f j) (f k) t)))) (λ t. ltb-false (f j) (f k) t),
+)
 
--- it depends on tests and keys below the bound only
-pub least-same : (n : ℕ) (test test′ : ℕ → Bool) (key key′ : ℕ → ℕ) → ((k : ℕ) → k < n → test k ≡ test′ k) → ((k : ℕ) → k < n → key k ≡ key′ k)
-    → least test key n ≡ least test′ key′ n
-unfolding least
-least-same zero test test′ key key′ h g = refl
-least-same (suc n) test test′ key key′ h g =
-    better-same n key key′ (test n) (least test key n) g (λ k e. least-some test key n k e .below)
-    ∙ ap₂ (better key′ n) (h n (omega arith)) (least-same n test test′ key key′ (λ k l. h k (omega arith)) (λ k l. g k (omega arith)))
+-- the least depends on the tests below the bound and on the order of the keys there, and on nothing else
+pub least-same : (n : ℕ) (test test′ : ℕ → Bool) (f g : ℕ → ℕ) → ((k : ℕ) → k < n → test k ≡ test′ k) → ((j k : ℕ) → j < n → k < n → (f j < f k) ↔ (g j < g k))
+    → least test f n ≡ least test′ g n
+least-same n test test′ f g same order = opt (least test f n)
+    (λ e. e ∙ sym (least-empty test′ g n (λ j l. sym (same j l) ∙ least-none test f n e j l)))
+    (λ k e. e ∙ sym (least-unique test′ g n k (moved k (least-some test f n k e))))
+  where
+    moved : (k : ℕ) → Least test f n k → Least test′ g n k
+    moved k l = record {
+      below = l .below;
+      passes = sym (same k (l .below)) ∙ l .passes;
+      lowest = λ j lj p. at-most n f g order j k lj (l .below) .0 (l .lowest j lj (same j lj ∙ p));
+      first = λ j lj p h. l .first j lj (same j lj ∙ p) (at-most n f g order k j (l .below) lj .1 h);
+    }
 
 -- ---- bytes made of bits
 

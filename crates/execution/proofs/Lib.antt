@@ -3,6 +3,7 @@ pub mod Base
 pub mod RuleLaws
 pub mod MachineLaws
 pub mod TableLaws
+pub mod OrderLaws
 pub mod Demand
 pub mod WordLaws
 pub mod Answers

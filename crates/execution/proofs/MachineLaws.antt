@@ -11,15 +11,14 @@ use native.Mathlib.Omega.{arith}
 use borrow.Author.Tests.{eqb-true, eqb-false, eq-eqb, ne-eqb, not-true, not-false}
 use lib.Dec.{eqb}
 use lib.ListN.{length, getD}
-use Rattle.integers.specs.Lists.{tab, count, total}
+use Rattle.integers.specs.Lists.{tab, count, total, oneIf}
 use Rattle.integers.proofs.Lists.{split, clash, and-left, and-right, or-right, count-yes, count-no, length-tab}
 use Rattle.nest.specs.declared.LoopNest.{LoopNest}
 use Rattle.nest.specs.Nest.{toℕ, countOf}
 use Rattle.nest.specs.Points.{pointsOf}
 use Rattle.nest.specs.Sources.{sourceRank}
 use Rattle.mapping.specs.Mapping.{isMessage}
-use Rattle.mapping.specs.GroupNumbers.{oneIf}
-use Rattle.mapping.proofs.Messages.{count-most, total-most}
+use Rattle.integers.proofs.Sums.{count-most, total-most}
 use Rattle.execution.specs.Rules.{every, least, Move, compute, deliver, Effect, refuse, iteration, message, answer, Layout, View, stepIn, processorIn, waits, there, sourceDone, taking, effect, ready}
 use Rattle.execution.specs.Machine.{Machine, freshMachine, machineAfter, machineView, machineAnswer, machineNext, machineRun, machineAnswers, countBelow, computedCount, deliveredCount, allowedCount}
 use Rattle.execution.proofs.Base.{opt, both, or-cases, and-eqb, sum-same, sum-more, sum-zero, count-same, count-more, count-all, count-zero, every-true, every-false, Least, least-none, least-some}

@@ -3,7 +3,7 @@
 use mathlib.Core.Path.{_≡_, refl, sym, ap, ap₂, subst, _∙_}
 use mathlib.Core.Bool.{Bool, true, false, not, _&&_}
 use mathlib.Core.List.{List}
-use mathlib.Core.Logic.{_≢_, _⊎_, inl, inr}
+use mathlib.Core.Logic.{_≢_, _⊎_, inl, inr, _↔_}
 use mathlib.Core.Option.{Option, none, some}
 use Prim.Native.Nat.{ℕ, _^_, _≤_, _<_}
 use native.Mathlib.Omega.{arith}
@@ -15,6 +15,7 @@ use Rattle.nest.specs.declared.LoopNest.{LoopNest}
 use Rattle.nest.specs.Nest.{toℕ, countOf}
 use Rattle.nest.specs.Points.{pointsOf}
 use Rattle.nest.specs.Sources.{sourceRank}
+use Rattle.nest.proofs.PointLaws.{source-iff}
 use Rattle.mapping.specs.Mapping.{crosses, isMessage}
 use Rattle.execution.specs.Rules.{every, least, Move, compute, deliver, Effect, refuse, iteration, message, Layout, View, stepIn, processorIn, waits, there, sourceDone, taking, ready, delivering, effect}
 use Rattle.execution.specs.Run.{State, stateView, stateRefusal, moveEffect}
@@ -148,20 +149,23 @@ module _ (s : LoopNest) (v : View) where
 
 -- ---- a move sees nothing but the iterations
 
--- two views agree on them
+-- two views agree on them; of their steps, on the order
 pub record Agree (s : LoopNest) (v w : View) : Type 0 where
-  pub step : (k : ℕ) → k < length (pointsOf s) → stepIn v k ≡ stepIn w k
+  pub earlier : (j k : ℕ) → j < length (pointsOf s) → k < length (pointsOf s) → (stepIn v j < stepIn v k) ↔ (stepIn w j < stepIn w k)
   pub processor : (k : ℕ) → k < length (pointsOf s) → processorIn v k ≡ processorIn w k
   pub done : (k : ℕ) → k < length (pointsOf s) → v .done k ≡ w .done k
   pub delivered : (k i : ℕ) → k < length (pointsOf s) → i < countOf s → v .delivered k i ≡ w .delivered k i
 
-module _ (s : LoopNest) (v w : View) (a : Agree s v w)
-    (below : (k i j : ℕ) → k < length (pointsOf s) → i < countOf s → sourceRank s k i ≡ some j → j < length (pointsOf s)) where
+module _ (s : LoopNest) (v w : View) (a : Agree s v w) where
+  -- a source is an iteration
+  below : (k i j : ℕ) → sourceRank s k i ≡ some j → j < length (pointsOf s)
+  below k i j q = source-iff s k i j .0 q .0
+
   -- the same sources are there
   there-same : (p k i : ℕ) → k < length (pointsOf s) → i < countOf s → there v p k i (sourceRank s k i) ≡ there w p k i (sourceRank s k i)
   there-same p k i hk hi = opt (sourceRank s k i)
       (λ q. ap (there v p k i) q ∙ sym (ap (there w p k i) q))
-      (λ j q. let l = below k i j hk hi q in ap (there v p k i) q ∙ on j l ∙ sym (ap (there w p k i) q))
+      (λ j q. let l = below k i j q in ap (there v p k i) q ∙ on j l ∙ sym (ap (there w p k i) q))
     where
       on : (j : ℕ) → j < length (pointsOf s) → there v p k i (some j) ≡ there w p k i (some j)
       on j l = split (eqb (processorIn w j) p)
@@ -185,14 +189,14 @@ module _ (s : LoopNest) (v w : View) (a : Agree s v w)
   taken-same : (p : ℕ) → taken s v p ≡ taken s w p
   taken-same p =
       least-same (length (pointsOf s)) (waits v p) (waits w p) (stepIn v) (stepIn w)
-      (λ k l. ap₂ (λ (d : Bool) (q : ℕ). not d && eqb q p) (a .done k l) (a .processor k l)) (a .step)
+      (λ k l. ap₂ (λ (d : Bool) (q : ℕ). not d && eqb q p) (a .done k l) (a .processor k l)) (a .earlier)
 
   -- the same messages are ready
   ready-same : (k i : ℕ) → k < length (pointsOf s) → i < countOf s → ready s v k i ≡ ready s w k i
   ready-same k i hk hi = opt (sourceRank s k i)
       (λ q. not-ready s v k i q ∙ sym (not-ready s w k i q))
       (λ j q.
-      let l = below k i j hk hi q in
+      let l = below k i j q in
       ap₂ _&&_
       (message-some s (v .layout .processors) k i j q ∙ ap₂ (λ (x y : ℕ). not (eqb x y)) (a .processor j l) (a .processor k hk) ∙ sym (message-some s (w .layout .processors) k i j q))
       (ap₂ (λ (d e : Bool). d && not e) (ap (sourceDone v) q ∙ a .done j l ∙ sym (ap (sourceDone w) q)) (a .delivered k i hk hi)))

@@ -18,8 +18,8 @@ use Rattle.nest.specs.Points.{pointsOf}
 use Rattle.nest.specs.Refusals.{refusal, orElse, shortBuffer, noRoom}
 use Rattle.nest.specs.Sources.{sourceRank}
 use Rattle.nest.proofs.Entries.{orElse-second, long-enough, none-short}
-use Rattle.mapping.specs.GroupNumbers.{oneIf}
-use Rattle.mapping.proofs.Counting.{one-yes, one-no}
+use Rattle.integers.specs.Lists.{oneIf}
+use Rattle.integers.proofs.Sums.{one-yes, one-no}
 use Rattle.sequential.specs.Sequential.{Rule, sourceValue, valueOf, sequential}
 use Rattle.sequential.proofs.LoopLaws.{loop-length, loop-value}
 use Rattle.execution.specs.Rules.{Move, Effect, refuse, iteration, message, answer, Layout, effect}
@@ -154,7 +154,7 @@ module _ {Val : Type 0} (R : Rule Val) (s : LoopNest) (ok : refusal s ≡ 0) (L 
   -- the two see the same
   agree : (b : Machine) (st : State Val) → Kept R s st₀ b st → Agree s (stateView L st) (machineView M b)
   agree b st h = record {
-    step = same .step;
+    earlier = λ j k lj lk. (λ h. omega (arith, h, same .step j lj, same .step k lk), λ h. omega (arith, h, same .step j lj, same .step k lk));
     processor = same .processor;
     done = λ k l. ap (λ x. not (eqb x 0)) (h .done k l) ∙ byte-test (b .computed k);
     delivered = λ k i l m. ap (bit i) (h .delivered k l) ∙ bit-byte (b .delivered k) (countOf s) i m;
@@ -172,7 +172,7 @@ module _ {Val : Type 0} (R : Rule Val) (s : LoopNest) (ok : refusal s ≡ 0) (L 
   pub same-effect : (b : Machine) (st : State Val) → Kept R s st₀ b st → (mv : Move) → moveEffect s L st mv ≡ effect s (machineView M b) mv
   same-effect b st h mv =
       move-rules s L st mv (kept-accepted b st h)
-      ∙ effect-same s (stateView L st) (machineView M b) (agree b st h) (λ k i j hk hi q. let l = C .earlier k i j hk hi q in omega arith) mv
+      ∙ effect-same s (stateView L st) (machineView M b) (agree b st h) mv
 
   -- the value written is the loop's: each source that is an iteration is computed
   pub written : (b : Machine) (st : State Val) (k : ℕ) → Valid s M b (iteration k) → Kept R s st₀ b st → (d : Val) → valueOf R s (st .values) k ≡ getD (sequential R s) k d

@@ -16,7 +16,7 @@ use Rattle.nest.specs.Refusals.{refusal, orElse, shortBuffer}
 use Rattle.nest.specs.Sources.{sourceRank}
 use Rattle.grouping.specs.Projection.{projection, divides, makesWhole, multiplier, groupSize}
 use Rattle.integers.specs.Extremes.{leastZ, greatestZ}
-use Rattle.partition.specs.Partition.{step, stepsOf, frameOf, groupsOf}
+use Rattle.partition.specs.Partition.{distinctProducts, step, stepsOf, frameOf, groupsOf}
 use Rattle.grouping.specs.Grouping.{pivot, clear, remainder, mayGroup, groupingVector, extend, chosenVectors, latest}
 use Rattle.grouping.specs.Grouping.{coefficients, left, isCombination, frame, directions, difference, sameClass}
 use Rattle.grouping.specs.Grouping.{coordinates, seeds, eqG, quotients, classNumber, group, blocks, blockNumber}
@@ -36,8 +36,8 @@ exampleLayout = record { steps = 0 ∷ 1 ∷ 2 ∷ 1 ∷ 2 ∷ 3 ∷ 8 ∷ []; p
 
 -- they are those of the nest
 pub example-steps : stepsOf listed ≡ 0 ∷ 1 ∷ 2 ∷ 1 ∷ 2 ∷ 3 ∷ []
-unfolding stepsOf any tab dots toℕ part limitsOf timeOf padded nestOf extent indices points pointsOf leastZ step
-    vector listed flatMap
+unfolding stepsOf any firstsAfter firsts count tab dots eqZ toℕ part limitsOf timeOf padded nestOf extent indices points
+    pointsOf distinctProducts step vector listed flatMap
 example-steps = refl
 
 pub example-processors : processorsOf listed ≡ 0 ∷ 0 ∷ 1 ∷ 0 ∷ 0 ∷ 0 ∷ []
@@ -100,9 +100,9 @@ example-run = refl
 pub example-reference : referenceAnswers listed (layoutOf listed) exampleMoves ≡ exampleAnswers
 unfolding any all first place firstsAfter firsts count repeats tab greatest firstFrom dots plus times eqZ eqV
     isZeroV floorDiv toℕ part limitsOf timeOf dependencesOf weightsOf padded nestOf extent indices points pointsOf
-    rank isPoint source sourceRank projection divides makesWhole multiplier groupSize leastZ step pivot clear
-    remainder mayGroup groupingVector extend chosenVectors latest coefficients left isCombination frame directions
-    difference sameClass coordinates seeds eqG quotients classNumber group blocks blockNumber stepsOf frameOf
+    rank isPoint source sourceRank projection divides makesWhole multiplier groupSize leastZ distinctProducts step pivot
+    clear remainder mayGroup groupingVector extend chosenVectors latest coefficients left isCombination frame
+    directions difference sameClass coordinates seeds eqG quotients classNumber group blocks blockNumber stepsOf frameOf
     groupsOf inOrder greatestZ direction undealt takesBit dealtBit noDirection nextTurn dealBit dealBits dealt gray
     partOf joined processor directionsOf processorsOf crosses isMessage vector listed flatMap every better least
     taking delivering effect

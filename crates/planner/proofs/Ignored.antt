@@ -2,16 +2,15 @@
 -- Assumes nothing.
 use mathlib.Core.Path.{_≡_, ap}
 use mathlib.Core.List.{[], _∷_, map}
-use Prim.Native.Nat.{_+_}
 use lib.Dec.{eqb}
 use lib.ListN.{length}
-use Rattle.integers.specs.Lists.{tab, count, greatest, firsts, total}
+use Rattle.integers.specs.Lists.{tab, count, firsts, total}
 use Rattle.nest.specs.declared.LoopNest.{LoopNest}
 use Rattle.nest.specs.Nest.{toℕ, cleared}
 use Rattle.nest.specs.Refusals.{refusal}
 use Rattle.nest.proofs.Places.{SameParts, same-points, same-source, accepted-same}
 use Rattle.grouping.specs.Grouping.{frame, seeds, group, blocks, blockNumber}
-use Rattle.partition.specs.Partition.{step, stepsOf, stepCount, frameOf, groupsOf, blocksOf, blockCount}
+use Rattle.partition.specs.Partition.{step, stepNumber, stepsOf, stepCount, frameOf, groupsOf, blocksOf, blockCount}
 use Rattle.mapping.specs.Mapping.{undealt, dealt, directionsOf, processor, processorsOf, processorCount, crosses, isMessage, messageCount}
 use Rattle.sequential.proofs.Ignored.{same-values}
 use Rattle.planner.specs.Plan.{countsOf, SamePlan}
@@ -41,7 +40,7 @@ module _ {s t : LoopNest} (p : SameParts s t) where
 
   same-counts : countsOf s ≡ countsOf t
   unfolding countsOf stepCount blockCount processorCount
-  same-counts = λ x. length (same-points p x) ∷ (greatest (same-steps x) + 1) ∷ length (blocks (same-groups x)) ∷ length (firsts eqb (same-processors x)) ∷ same-messages x ∷ []
+  same-counts = λ x. length (same-points p x) ∷ stepNumber (p .times x) (same-points p x) ∷ length (blocks (same-groups x)) ∷ length (firsts eqb (same-processors x)) ∷ same-messages x ∷ []
 
   pub same-plan : SamePlan s t
   same-plan = record { steps = same-steps; blocks-are = same-blocks; processors = same-processors; values = same-values p; counts = same-counts }

@@ -102,7 +102,7 @@ module _ (s : LoopNest) (ok : refusal s ≡ 0) (n : ℕ) (count : n ≡ length (
 
   -- the steps have room in six columns
   steps-fit : (k : ℕ) → k < n → getD a′ k 0 < 1000000
-  steps-fit k h = omega (arith, front n (stepsOf s) (drop n a) a′ (steps-length s ∙ sym count) steps-are k h, step-few s ok k (omega arith))
+  steps-fit k h = omega (arith, front n (stepsOf s) (drop n a) a′ (steps-length s ∙ sym count) steps-are k h, step-few s ok k (omega arith), few-points s ok)
 
   -- the rows of the tables are those of the plan
   rows-are : tab (rowOf a′ b′ c′ d′) n ≡ tab (rowOf (stepsOf s) (blocksOf s) (processorsOf s) (valuesOf s)) (length (pointsOf s))

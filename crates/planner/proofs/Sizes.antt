@@ -21,7 +21,7 @@ use Rattle.grouping.specs.Grouping.{eqG, blocks}
 use Rattle.partition.specs.Partition.{stepsOf, groupsOf, blocksOf, blockCount}
 use Rattle.partition.proofs.Theorems.{step-few, steps-few, block-below}
 use Rattle.mapping.specs.Mapping.{processorsOf, processorCount, isMessage, messageCount}
-use Rattle.mapping.proofs.Messages.{count-most, total-most}
+use Rattle.integers.proofs.Sums.{count-most, total-most}
 use Rattle.partition.proofs.Nests.{groups-length}
 use Rattle.mapping.proofs.Theorems.{processors-length, table-below}
 use Rattle.sequential.specs.Sequential.{ruleOf, loop, sequential, valuesOf}

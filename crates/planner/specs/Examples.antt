@@ -29,7 +29,8 @@ use Rattle.nest_text.specs.Text.{isShaped, bodyNumbers, nestFrom, bodyOf, readR
 use Rattle.nest_text.specs.Examples.{bytes, lines}
 use Rattle.grouping.specs.Projection.{projection, divides, makesWhole, multiplier, groupSize}
 use Rattle.integers.specs.Extremes.{leastZ, greatestZ}
-use Rattle.partition.specs.Partition.{step, stepsOf, stepCount, frameOf, groupsOf, blocksOf, blockCount}
+use Rattle.partition.specs.Partition.{distinctProducts, step, stepNumber, stepsOf, stepCount, frameOf, groupsOf}
+use Rattle.partition.specs.Partition.{blocksOf, blockCount}
 use Rattle.grouping.specs.Grouping.{pivot, clear, remainder, mayGroup, groupingVector, extend, chosenVectors}
 use Rattle.grouping.specs.Grouping.{chosenCount, latest, coefficients, left, isCombination, frame, directions}
 use Rattle.grouping.specs.Grouping.{difference, sameClass, coordinates, seeds, eqG, quotients, classNumber, group}
@@ -50,6 +51,8 @@ pub data Fact : Type 0 where
   answer : ℕ → Fact
   iterationsAre : ℕ → Fact
   stepsAre : ℕ → Fact
+  -- the step of each iteration, in loop order
+  iterationSteps : List ℕ → Fact
   -- the numbers of iterations of blocks 0, 1, ..
   blockSizes : List ℕ → Fact
   blocksAre : ℕ → Fact
@@ -87,6 +90,7 @@ unfoldable pub says : LoopNest → Fact → Bool
 says s (answer k) = eqb (refusal s) k
 says s (iterationsAre k) = eqb (length (pointsOf s)) k
 says s (stepsAre k) = eqb (stepCount s) k
+says s (iterationSteps ks) = eqN (stepsOf s) ks
 says s (blockSizes ks) = let t = blocksOf s in eqN (map (λ b. count (eqb b) t) (below (blockCount s))) ks
 says s (blocksAre k) = eqb (blockCount s) k
 says s (iterationBlocks ks) = eqN (blocksOf s) ks
@@ -253,6 +257,26 @@ table =
       nest = rowOf64;
       facts = answer 0 ∷ iterationBlocks (below 64) ∷ blockProcessors grayCodes ∷ [];
     }
+    -- steps that nobody works in (document 02, U2). P·j is 2(x + y): 0, 2, 4, 6, 8
+    ∷ record {
+      nest = two 2 2 (vector (2 ∷ 2 ∷ [])) (vector (0 ∷ 1 ∷ []));
+      facts = answer 0 ∷ stepsAre 5 ∷ iterationSteps (0 ∷ 1 ∷ 2 ∷ 1 ∷ 2 ∷ 3 ∷ 2 ∷ 3 ∷ 4 ∷ []) ∷ [];
+    }
+    -- 0, 3, 2, 5: no divisor of the time vector's components takes the gaps away
+    ∷ record {
+      nest = two 1 1 (vector (2 ∷ 3 ∷ [])) (vector (0 ∷ 1 ∷ []));
+      facts = answer 0 ∷ stepsAre 4 ∷ iterationSteps (0 ∷ 2 ∷ 1 ∷ 3 ∷ []) ∷ [];
+    }
+    -- 0, -16, -32 and 16, 0, -16
+    ∷ record {
+      nest = two 1 2 (pos 16 ∷ negℤ (pos 16) ∷ []) (vector (1 ∷ 0 ∷ []));
+      facts = answer 0 ∷ stepsAre 4 ∷ iterationSteps (2 ∷ 1 ∷ 0 ∷ 3 ∷ 2 ∷ 1 ∷ []) ∷ [];
+    }
+    -- 0, 2, 4 and -3, -1, 1: all six differ
+    ∷ record {
+      nest = two 1 2 (negℤ (pos 3) ∷ pos 2 ∷ []) (vector (0 ∷ 1 ∷ []));
+      facts = answer 0 ∷ stepsAre 6 ∷ iterationSteps (2 ∷ 4 ∷ 5 ∷ 0 ∷ 1 ∷ 3 ∷ []) ∷ [];
+    }
     ∷ []
 
 pub examples-hold : all (λ c. all (says (c .nest)) (c .facts)) table ≡ true
@@ -262,8 +286,8 @@ unfolding any all first place firstsAfter firsts count repeats tab greatest firs
     orElse sourceRank blanksOf allDigits valueOf digitsOf signedOf readOf digitsTo numeralOf fieldOf line linesOf isLine
     numbersOf areLines lineNumbers widths shapes fits firstFitting isHeaded headerWidthOf headerNumbers headed
     headerOf restOf isShaped bodyNumbers nestFrom bodyOf readRefusal readNest textOf bytes lines projection divides
-    makesWhole multiplier groupSize leastZ step pivot clear remainder mayGroup groupingVector extend chosenVectors
-    chosenCount latest coefficients left isCombination frame directions difference sameClass coordinates seeds eqG
+    makesWhole multiplier groupSize leastZ distinctProducts step stepNumber pivot clear remainder mayGroup
+    groupingVector extend chosenVectors chosenCount latest coefficients left isCombination frame directions difference sameClass coordinates seeds eqG
     quotients classNumber group blocks blockNumber stepsOf stepCount frameOf groupsOf blocksOf blockCount inOrder
     greatestZ direction undealt takesBit withBit noDirection nextTurn dealBit dealBits dealt gray partOf joined
     processor directionsOf processorsOf processorCount crosses isMessage total messageCount sourceValue madeOf loop

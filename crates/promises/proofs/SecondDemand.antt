@@ -1,10 +1,9 @@
 -- Demand 2: what holds of the tables and counts that an accepted call of `plan` left, and of a nest that is read and written.
 -- Assumes nothing.
-use mathlib.Core.Path.{_≡_, sym, ap, ap₂, subst, _∙_}
+use mathlib.Core.Path.{_≡_, refl, sym, ap, ap₂, subst, _∙_}
 use mathlib.Core.List.{List, _++_}
-use Prim.Native.Nat.{ℕ, suc, _^_, _<_}
+use Prim.Native.Nat.{ℕ, _^_, _<_}
 use native.Mathlib.Omega.{arith}
-use lib.IntN.{pos, _+ℤ_}
 use lib.ListN.{length, getD, take, drop, List·getD-append}
 use lib.Seq.{take-append-le, take-all}
 use Rattle.integers.proofs.ListFacts.{getD-map}
@@ -17,7 +16,7 @@ use Rattle.nest.proofs.Answers.{answered-unique, nest-answered}
 use Rattle.nest.proofs.Entries.{made-table}
 use Rattle.partition.specs.Partition.{stepsOf, stepCount, groupsOf, blocksOf, blockCount, noGroup}
 use Rattle.partition.proofs.Nests.{steps-length, groups-length}
-use Rattle.partition.proofs.Theorems.{step-is, step-below, last-step, blocks-length, block-below, block-used, block-order, block-iff, one-iteration-a-step, later-step}
+use Rattle.partition.proofs.Theorems.{step-at as step-entry, step-order, step-iff, step-below, step-used, step-few, blocks-length, block-below, block-used, block-order, block-iff, one-iteration-a-step, later-step}
 use Rattle.mapping.specs.Mapping.{processorsOf, processorCount, messageCount, directionsOf, processor}
 use Rattle.mapping.proofs.Theorems.{processors-length, processors-below, messages-counted}
 use Rattle.sequential.specs.Sequential.{ruleOf, valuesOf, fillRefusal, fillOrder}
@@ -44,7 +43,7 @@ use Rattle.rows.proofs.SpanLaws.{span-refusal}
 use Rattle.rows.proofs.Answers.{row-answered}
 use Rattle.nest_text.proofs.RoundTrip.{read-written, written-read}
 use Rattle.nest_text.proofs.WriteAnswers.{put-number, put-length, put-bytes, put-first, put-room}
-use Rattle.promises.specs.Demand2.{leastProduct, at, IsPlan, SameText, Exactly, Conditions, Demand2}
+use Rattle.promises.specs.Demand2.{at, IsPlan, SameText, Exactly, Conditions, Demand2}
 
 -- ---- a plan
 module _ (s : LoopNest) (old : Tables) (p : Planning) (t : Tables) (P : Plans s old p t) (z : p .refusal ≡ 0) where
@@ -105,9 +104,19 @@ module _ (s : LoopNest) (old : Tables) (p : Planning) (t : Tables) (P : Plans s 
     processors = table (processorsOf s) (old .processors) (t .processors) (processors-length s) (P .1 .1 .1 .0);
     values = table (valuesOf s) (old .values) (t .values) (values-length s) (P .1 .1 .1 .1);
     iterations = counted .0;
-    step = λ k h. step-is s ok k h ∙ ap (λ n. leastProduct s +ℤ pos n) (sym (step-at k h));
+    step = λ k h. step-at k h ∙ step-entry s ok k h;
+    step-count = counted .1 ∙ (unfold stepCount in refl);
+    step-order = λ j k hj hk.
+        let r = step-order s ok j k hj hk in
+        let a = step-at j hj in
+        let b = step-at k hk in
+        (λ h. r .0 (omega (arith, h, a, b)), λ h. omega (arith, r .1 h, a, b));
+    step-same = λ j k hj hk.
+        let r = step-iff s ok j k hj hk in
+        (λ e. r .0 (sym (step-at j hj) ∙ e ∙ step-at k hk), λ e. step-at j hj ∙ r .1 e ∙ sym (step-at k hk));
     step-below = λ k h. omega (arith, step-at k h, counted .1, step-below s ok k h);
-    step-last = let l = last-step s ok in (l .0, l .1, ap suc (step-at (l .0) (l .1)) ∙ l .2 ∙ sym (counted .1));
+    step-used = λ b h. let u = step-used s ok b (omega (arith, h, counted .1)) in (u .0, u .1, step-at (u .0) (u .1) ∙ u .2);
+    step-few = λ k h. omega (arith, step-at k h, counted .0, step-few s ok k h);
     block-below = λ k h. omega (arith, block-at k h, counted .2, block-below s ok k h);
     block-used = λ b h. let u = block-used s ok b (omega (arith, counted .2)) in (u .0, u .1, block-at (u .0) (u .1) ∙ u .2);
     block-order = λ k h b l.

@@ -5,13 +5,13 @@
 -- read and written is the same nest, as text and as numbers. It is said of what calls of the
 -- entries answer and leave. Assumes nothing.
 use mathlib.Core.Path.{_≡_}
-use mathlib.Core.List.{List, _++_, map}
+use mathlib.Core.List.{List, _++_}
 use mathlib.Core.Logic.{_↔_}
-use Prim.Native.Nat.{ℕ, suc, _^_, _<_, _≤_}
-use lib.IntN.{ℤ, pos, _+ℤ_}
+use Prim.Native.Nat.{ℕ, _^_, _<_, _≤_}
+use lib.IntN.{ℤ}
 use lib.ListN
 use lib.ListN.{getD, take, drop}
-use Rattle.integers.specs.Extremes.{leastZ}
+use lib.Signed.{_<ℤ_}
 use Rattle.integers.specs.Lists.{count}
 use Rattle.integers.specs.Vector.{dots}
 use Rattle.nest.specs.declared.LoopNest.{LoopNest}
@@ -26,7 +26,7 @@ use Rattle.nest_text.specs.Text.{writeOrder, Reads, Writes}
 use Rattle.nest_text.specs.Form.{readOrder}
 use Rattle.rows.specs.declared.Span.{Span}
 use Rattle.rows.specs.Rows.{rowOrder, Locates, Cuts}
-use Rattle.partition.specs.Partition.{stepsOf, blocksOf, groupAt}
+use Rattle.partition.specs.Partition.{step, stepNumber, stepsOf, blocksOf, groupAt}
 use Rattle.mapping.specs.Mapping.{processorsOf, processorCount, isMessage, pairs}
 use Rattle.sequential.specs.Sequential.{valueOf, ruleOf, valuesOf, fillOrder, Fills}
 use Rattle.planner.specs.declared.Planning.{Planning}
@@ -45,9 +45,9 @@ use Rattle.promises.specs.Iterations.{Iteration, behind}
 abbrev pub at : List ℕ → ℕ → ℕ
 at table k = getD table k 0
 
--- the least P·j over all iterations
-abbrev pub leastProduct : LoopNest → ℤ
-leastProduct s = leastZ (map (dots (timeOf s)) (pointsOf s))
+-- P·j of iteration k
+abbrev pub product : LoopNest → ℕ → ℤ
+product s k = dots (timeOf s) (point s k)
 
 -- how many pairs of an iteration and a dependence are messages: the source is an iteration on
 -- another processor
@@ -64,10 +64,20 @@ pub record IsPlan (s : LoopNest) (old : Tables) (p : Planning) (t : Tables) : Ty
   pub processors : t .processors ≡ processorsOf s ++ behind s (old .processors)
   pub values : t .values ≡ valuesOf s ++ behind s (old .values)
   pub iterations : p .iterations ≡ lib.ListN.length (pointsOf s)
-  -- a step is P·j less the least P·j; each is below the count of steps, and one is the last
-  pub step : (k : ℕ) → Iteration s k → dots (timeOf s) (point s k) ≡ leastProduct s +ℤ pos (at (t .steps) k)
+  -- a step is the number of distinct smaller values of P·j among the iterations, and the count of
+  -- steps that of distinct values (document 02, U2)
+  pub step : (k : ℕ) → Iteration s k → at (t .steps) k ≡ step (timeOf s) (pointsOf s) (point s k)
+  pub step-count : p .steps ≡ stepNumber (timeOf s) (pointsOf s)
+  -- so an earlier step is a smaller P·j, and one step one P·j
+  pub step-order : (j k : ℕ) → Iteration s j → Iteration s k
+      → (at (t .steps) j < at (t .steps) k) ↔ (product s j <ℤ product s k)
+  pub step-same : (j k : ℕ) → Iteration s j → Iteration s k
+      → (at (t .steps) j ≡ at (t .steps) k) ↔ (product s j ≡ product s k)
+  -- the numbers from 0 to the count less 1 are each used: there is no step that nobody works in
   pub step-below : (k : ℕ) → Iteration s k → at (t .steps) k < p .steps
-  pub step-last : (k : ℕ) × Iteration s k × (suc (at (t .steps) k) ≡ p .steps)
+  pub step-used : (b : ℕ) → b < p .steps → (k : ℕ) × Iteration s k × (at (t .steps) k ≡ b)
+  -- and each is below the number of iterations
+  pub step-few : (k : ℕ) → Iteration s k → at (t .steps) k < p .iterations
   -- each iteration is in exactly one block: its entry; the numbers from 0 to the count less 1 are
   -- each used, in the order of the first iterations
   pub block-below : (k : ℕ) → Iteration s k → at (t .blocks) k < p .blocks

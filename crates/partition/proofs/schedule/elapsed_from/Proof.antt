@@ -1,4 +1,4 @@
--- `steps_from` meets its contract. The loop's invariant: the first k steps stand in the table, and the greatest of them is known. Assumes nothing.
+-- `elapsed_from` meets its contract. The loop's invariant: the first k steps stand in the table, and the greatest of them is known. Assumes nothing.
 use borrow.Author.Needs.{needs}
 use mathlib.Core.Path.{_≡_, ap, _∙_}
 use mathlib.Core.List.{List, _++_}
@@ -9,8 +9,8 @@ use Rattle.integers.specs.Lists.{greatest, tab}
 use Rattle.numbering.proofs.Filled.{filled-length, filled-next}
 use Rattle.partition.specs.KeySteps.{maxProduct}
 use Rattle.partition.proofs.StepLaws.{Stepped, stepped-start, stepped-more}
-use Rattle.partition.proofs.schedule.steps_from.Statement.{statement}
-use Rattle.partition.proofs.schedule.steps_from.Tie as tie
+use Rattle.partition.proofs.schedule.elapsed_from.Statement.{statement}
+use Rattle.partition.proofs.schedule.elapsed_from.Tie as tie
 
 -- the step of iteration k
 abbrev to : List ℕ → ℕ → ℕ → ℕ
@@ -47,14 +47,14 @@ span l h = let p = start l .pre .1 (l .loop .k) h in let e = here l h in (omega 
 loop-holds : tie.Need-loop-holds Inv-loop μ-loop
 loop-holds c = let a = c .before .args in (omega arith, stepped-start (to (a .steps .now) (a .least)) (a .steps .now))
 
-mul-step : tie.Need-mul-step Inv-loop μ-loop
-mul-step c = search needs
+mul-elapsed : tie.Need-mul-elapsed Inv-loop μ-loop
+mul-elapsed c = search needs
 
-slice-read-step : tie.Need-slice-read-step Inv-loop μ-loop
-slice-read-step c = let l = c .before .before in omega (arith, c .before .loop-test .taken, long l, start l .pre .0)
+slice-read-elapsed : tie.Need-slice-read-elapsed Inv-loop μ-loop
+slice-read-elapsed c = let l = c .before .before in omega (arith, c .before .loop-test .taken, long l, start l .pre .0)
 
-sub-step : tie.Need-sub-step Inv-loop μ-loop
-sub-step c = span (c .before .before) (c .before .loop-test .taken) .0
+sub-elapsed : tie.Need-sub-elapsed Inv-loop μ-loop
+sub-elapsed c = span (c .before .before) (c .before .loop-test .taken) .0
 
 mul-steps : tie.Need-mul-steps Inv-loop μ-loop
 mul-steps c = search needs
@@ -100,16 +100,16 @@ returns c =
     let e : l .loop .k ≡ d .args .count = omega (arith, l .loop .inv .0, c .loop-test .left) in
     (ap (λ i. i + 1) (S .most ∙ ap (λ i. greatest (tab f i)) e), S .table ∙ ap (λ i. tab f i ++ drop i (d .args .steps .now)) e)
 
-pub steps-from-spec : {M : Type 1} → statement M
-steps-from-spec =
+pub elapsed-from-spec : {M : Type 1} → statement M
+elapsed-from-spec =
     tie.close
     (tie.spec
     Inv-loop
     μ-loop
     loop-holds
-    mul-step
-    slice-read-step
-    sub-step
+    mul-elapsed
+    slice-read-elapsed
+    sub-elapsed
     mul-steps
     slice-write-steps
     larger-requires
