@@ -1,9 +1,9 @@
 //! A second planner for loop nests with constant dependences: the blocks of Sheu and Tai
 //! (source document 000) and their processors on a hypercube, with the free choices as document 01
-//! fixes them.
+//! fixes them and the steps as document 02, U2, has them.
 //!
 //! Its only purpose is to be compared, byte for byte, with the proved planner, with which it shares
-//! no code and no language. So it follows document 01 sentence by sentence, computes with exact
+//! no code and no language. So it follows the documents sentence by sentence, computes with exact
 //! rational numbers, and prefers the simplest algorithm to the fastest one.
 //!
 //! Some of document 01's titles use words that this code does not: "The sheet" is about the loop

@@ -1,7 +1,8 @@
-//! The partitioning of document 01's "From sheet to plan": steps, projections, group size, grouping
-//! and auxiliary vectors, classes, groups and blocks (000, algorithm 1).
+//! The partitioning of document 01's "From sheet to plan": projections, group size, grouping and
+//! auxiliary vectors, classes, groups and blocks (000, algorithm 1); and the steps, which are those
+//! of document 02, U2.
 
-use std::collections::HashMap;
+use std::collections::{BTreeSet, HashMap};
 use std::hash::Hash;
 
 use crate::linear::{self, Vector};
@@ -21,7 +22,7 @@ pub struct Group {
 pub struct Partition {
     /// The step of each iteration.
     pub steps: Vec<i64>,
-    /// The number of steps from the first to the last, empty ones included.
+    /// The number of steps. Each of them has an iteration.
     pub step_count: i64,
     /// r_i of each dependence.
     pub multipliers: Vec<i64>,
@@ -48,7 +49,7 @@ pub struct Partition {
 impl Partition {
     /// The partition of an accepted nest.
     pub fn new(nest: &LoopNest, iterations: &Iterations) -> Partition {
-        let steps = steps(nest, iterations);
+        let (steps, step_count) = steps(nest, iterations);
         let projected: Vec<Vector> =
             nest.dependences.iter().map(|dependence| projection(nest, dependence)).collect();
         let multipliers: Vec<i64> = projected.iter().map(|vector| multiplier(vector)).collect();
@@ -71,8 +72,8 @@ impl Partition {
         let (block_groups, blocks) = numbered_by_first(&groups_of_iterations);
 
         Partition {
-            step_count: steps.iter().max().expect("at least one iteration") + 1,
             steps,
+            step_count,
             multipliers,
             group_size,
             grouping,
@@ -100,12 +101,15 @@ impl Partition {
     }
 }
 
-/// The step of each iteration j: its time P·j, counted from the earliest iteration's.
-fn steps(nest: &LoopNest, iterations: &Iterations) -> Vec<i64> {
+/// The step of each iteration j: how many different times smaller than its own, P·j, iterations
+/// have. And the number of steps, which is the number of different times (document 02, U2).
+fn steps(nest: &LoopNest, iterations: &Iterations) -> (Vec<i64>, i64) {
     let times: Vec<i64> =
         iterations.points.iter().map(|point| inner_product(&nest.time_vector, point)).collect();
-    let least = *times.iter().min().expect("at least one iteration");
-    times.iter().map(|time| time - least).collect()
+    let different: BTreeSet<i64> = times.iter().copied().collect();
+    let rising: Vec<i64> = different.into_iter().collect();
+    let smaller = |time: &i64| rising.partition_point(|other| other < time) as i64;
+    (times.iter().map(smaller).collect(), rising.len() as i64)
 }
 
 /// The part of j across the time vector (document 01, "Projection"; 000, section II).
@@ -249,6 +253,77 @@ fn group(class: usize, coordinates: &[i64], grouping: Option<usize>, group_size:
 #[cfg(test)]
 mod tests {
     use super::*;
+
+    /// The steps and their number of a nest with these limits and one dependence, which must be
+    /// accepted.
+    fn steps_of(limits: &[[i64; 2]], time_vector: &[i64], dependence: &[i64]) -> (Vec<i64>, i64) {
+        let nest = LoopNest {
+            depth: limits.len() as i64,
+            dependence_count: 1,
+            cube_dimension: 0,
+            lower: limits.iter().map(|[lower, _]| *lower).collect(),
+            upper: limits.iter().map(|[_, upper]| *upper).collect(),
+            time_vector: time_vector.to_vec(),
+            dependences: vec![dependence.to_vec()],
+            boundary_value: 0,
+            weights: vec![1],
+        };
+        assert_eq!(nest.refusal(), None);
+        let partition = Partition::new(&nest, &Iterations::new(&nest));
+        (partition.steps, partition.step_count)
+    }
+
+    /// P·j is 2(i + j), row by row 0 2 4, 2 4 6, 4 6 8: the times 0, 2, 4, 6, 8, and no odd one.
+    #[test]
+    fn a_common_factor_of_the_time_vector_leaves_no_step_empty() {
+        let steps = vec![0, 1, 2, 1, 2, 3, 2, 3, 4];
+        assert_eq!(steps_of(&[[0, 2], [0, 2]], &[2, 2], &[0, 1]), (steps, 5));
+    }
+
+    /// The times are 0 3, 2 5. Nothing divides them all, and 1 and 4 are missing all the same. On
+    /// 16i + j, with 0 1 2, 16 17 18, the times from 3 to 15 are.
+    #[test]
+    fn times_without_a_common_factor_may_have_gaps() {
+        assert_eq!(steps_of(&[[0, 1], [0, 1]], &[2, 3], &[0, 1]), (vec![0, 2, 1, 3], 4));
+        let far_apart = (vec![0, 1, 2, 3, 4, 5], 6);
+        assert_eq!(steps_of(&[[0, 1], [0, 2]], &[16, 1], &[0, 1]), far_apart);
+    }
+
+    /// First the times 0 2 4, -3 -1 1: in order -3, -1, 0, 1, 2, 4. Then 0 -2, -2 -4.
+    #[test]
+    fn negative_components() {
+        let steps = vec![2, 4, 5, 0, 1, 3];
+        assert_eq!(steps_of(&[[0, 1], [0, 2]], &[-3, 2], &[0, 1]), (steps, 6));
+        assert_eq!(steps_of(&[[0, 1], [0, 1]], &[-2, -2], &[1, -2]), (vec![2, 1, 1, 0], 3));
+    }
+
+    /// P·j is 16(i - j), row by row 0 -16 -32, 16 0 -16, 32 16 0: five times, 16 apart.
+    #[test]
+    fn components_at_both_ends_of_their_span() {
+        let steps = vec![2, 1, 0, 3, 2, 1, 4, 3, 2];
+        assert_eq!(steps_of(&[[0, 2], [0, 2]], &[16, -16], &[1, 0]), (steps, 5));
+    }
+
+    /// One time, whatever it is: 16000, or -16000 - 16000 - 16000.
+    #[test]
+    fn one_iteration_is_at_step_0_of_1() {
+        assert_eq!(steps_of(&[[1000, 1000]], &[16], &[1]), (vec![0], 1));
+        let corner = [[-1000, -1000]; 3];
+        assert_eq!(steps_of(&corner, &[16, 16, 16], &[0, 0, 1]), (vec![0], 1));
+    }
+
+    /// The times are -16000, -15984, .., 16000, one for each iteration.
+    #[test]
+    fn the_longest_loop_has_a_step_for_each_iteration() {
+        assert_eq!(steps_of(&[[-1000, 1000]], &[16], &[1]), ((0..2001).collect(), 2001));
+    }
+
+    /// P·j is 4a + 6c, whatever b is: 0 6, 0 6, 4 10, 4 10.
+    #[test]
+    fn three_loops_of_which_one_moves_no_time() {
+        let steps = vec![0, 2, 0, 2, 1, 3, 1, 3];
+        assert_eq!(steps_of(&[[0, 1]; 3], &[4, 0, 6], &[0, 0, 1]), (steps, 4));
+    }
 
     #[test]
     fn floor_division_below_at_and_above_zero() {
