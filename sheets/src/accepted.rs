@@ -4,8 +4,9 @@ use second::nest::{inner_product, LoopNest};
 use second::rational::greatest_common_divisor;
 use second::text;
 
+use crate::gaps::{corner, times_with_gaps};
 use crate::random::Random;
-use crate::{in_turn, Case, ACCEPTED};
+use crate::{Case, ACCEPTED};
 
 type NestMaker = fn(&mut Random) -> LoopNest;
 
@@ -26,6 +27,7 @@ const ACCEPTED_KINDS: &[(&str, NestMaker)] = &[
     ("deepest, unit dependences", deepest_with_unit_dependences),
     ("large cube", large_cube),
     ("longest text", longest_text),
+    ("times with gaps", times_with_gaps),
     ("full", full),
 ];
 
@@ -34,10 +36,14 @@ pub(crate) fn accepted_case(random: &mut Random, number: u64) -> Case {
     Case { family: ACCEPTED, kind: kind.into(), text: text::write(&nest).into_bytes() }
 }
 
-/// An accepted nest and its kind; all kinds come in turn.
+/// An accepted nest and its kind: all kinds come in turn, and behind them one of the corners of
+/// steps, the next one each time.
 pub fn accepted_nest(random: &mut Random, number: u64) -> (&'static str, LoopNest) {
-    let (kind, make) = in_turn(ACCEPTED_KINDS, number);
-    (kind, make(random))
+    let round = ACCEPTED_KINDS.len() as u64 + 1;
+    match ACCEPTED_KINDS.get((number % round) as usize) {
+        Some((kind, make)) => (kind, make(random)),
+        None => ("corner of steps", corner(random, number / round)),
+    }
 }
 
 fn greatest_depth() -> usize {
@@ -49,7 +55,7 @@ pub(crate) fn depth_from(random: &mut Random, least: usize) -> usize {
 }
 
 /// A time vector with dependences that it allows.
-type Directions = (Vec<i64>, Vec<Vec<i64>>);
+pub(crate) type Directions = (Vec<i64>, Vec<Vec<i64>>);
 
 /// Whether a dependence may be added: not backward, not there yet, not against the time vector.
 fn may_be_added(dependence: &[i64], time_vector: &[i64], dependences: &[Vec<i64>]) -> bool {
@@ -60,7 +66,7 @@ fn may_be_added(dependence: &[i64], time_vector: &[i64], dependences: &[Vec<i64>
 }
 
 /// Adds up to `wanted` dependences whose components are multiples of `unit` up to `span` units.
-fn add_dependences(
+pub(crate) fn add_dependences(
     random: &mut Random,
     directions: &mut Directions,
     wanted: usize,
@@ -144,7 +150,7 @@ pub(crate) fn nest_near_zero(
 }
 
 /// A nest with the given lower limits and loop lengths, the remaining numbers drawn at random.
-fn nest_at(
+pub(crate) fn nest_at(
     random: &mut Random,
     lower: &[i64],
     lengths: &[i64],

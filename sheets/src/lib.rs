@@ -5,6 +5,7 @@
 //! |---|---|
 //! | `random.rs` | numbers from a seed |
 //! | `accepted.rs` | nests that are accepted |
+//! | `gaps.rs` | those of them whose times leave out whole numbers |
 //! | `refused.rs` | nests with one refusal |
 //! | `twice.rs` | nests with two refusals or more |
 //! | `damaged.rs` | texts that are damaged |
@@ -14,6 +15,7 @@
 pub mod accepted;
 pub mod damaged;
 pub mod feeding;
+pub mod gaps;
 pub mod random;
 pub mod refused;
 pub mod twice;

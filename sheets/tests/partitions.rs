@@ -1,10 +1,10 @@
-//! The second planner's partition on generated nests: its classes are those of the definition, and
-//! what 000 says of groups and blocks holds.
+//! The second planner's partition on generated nests: its classes and steps are those of the
+//! definitions, and what 000 says of groups and blocks holds.
 
-use std::collections::HashMap;
+use std::collections::{HashMap, HashSet};
 
 use second::linear::{self, Vector};
-use second::nest::{Iterations, LoopNest};
+use second::nest::{inner_product, Iterations, LoopNest};
 use second::partition::{projection, Group, Partition};
 use second::text;
 
@@ -47,6 +47,58 @@ fn classes_are_those_of_the_definition() {
         compared += 1;
     }
     assert!(compared > 150);
+}
+
+/// The steps by the definition alone: for each iteration the different smaller times are gathered
+/// anew, and counted.
+fn steps_by_definition(nest: &LoopNest, iterations: &Iterations) -> Vec<i64> {
+    let points = &iterations.points;
+    let times: Vec<i64> =
+        points.iter().map(|point| inner_product(&nest.time_vector, point)).collect();
+    let smaller = |time: &i64| {
+        times.iter().filter(|&other| other < time).collect::<HashSet<&i64>>().len() as i64
+    };
+    times.iter().map(smaller).collect()
+}
+
+#[test]
+fn steps_are_those_of_the_definition() {
+    let mut compared = 0;
+    for nest in accepted_nests(600).filter(|nest| nest.iteration_count() <= 200) {
+        let iterations = Iterations::new(&nest);
+        let partition = Partition::new(&nest, &iterations);
+        assert_eq!(partition.steps, steps_by_definition(&nest, &iterations), "{nest:?}");
+        compared += 1;
+    }
+    assert!(compared > 150);
+}
+
+#[test]
+fn every_step_that_is_counted_has_an_iteration() {
+    for nest in accepted_nests(600) {
+        let partition = Partition::new(&nest, &Iterations::new(&nest));
+        let mut steps = partition.steps;
+        steps.sort();
+        steps.dedup();
+        assert!(steps.into_iter().eq(0..partition.step_count), "{nest:?}");
+    }
+}
+
+#[test]
+fn every_dependence_leads_to_a_later_step() {
+    let mut followed = 0;
+    for nest in accepted_nests(600) {
+        let iterations = Iterations::new(&nest);
+        let steps = Partition::new(&nest, &iterations).steps;
+        for rank in 0..iterations.count() {
+            for dependence in &nest.dependences {
+                let Some(source) = iterations.source(rank, dependence) else { continue };
+                assert!(steps[source] < steps[rank], "{nest:?}");
+                followed += 1;
+            }
+        }
+    }
+    assert!(followed > 10000);
 }
 
 #[test]
