@@ -1,6 +1,7 @@
-//! A planner as one would write it in plain Rust for speed: machine integers, one pass for each
-//! table, nothing proved. It follows document 01 and its source document 000. Loops behind the
-//! depth are taken as loops of one iteration, so that there are always three.
+//! A planner as one would write it in plain Rust for speed: machine integers, few passes over the
+//! tables, nothing proved. It follows document 01, its source document 000, and for steps document
+//! 02, U2. Loops behind the depth are taken as loops of one iteration, so that there are always
+//! three.
 
 use std::collections::HashMap;
 
@@ -172,7 +173,8 @@ impl Loops {
         });
     }
 
-    /// The steps, and how many there are.
+    /// The steps, and how many there are. Each value of the time between the least and the greatest
+    /// gets a flag if an iteration has it; counted up, the flags before it are its step.
     fn steps(&self, steps: &mut [u32]) -> usize {
         let end = |k: usize, least: bool| {
             let (a, b) = (self.time[k] * self.lower[k], self.time[k] * self.upper[k]);
@@ -184,8 +186,22 @@ impl Loops {
         };
         let least = end(0, true) + end(1, true) + end(2, true);
         let greatest = end(0, false) + end(1, false) + end(2, false);
-        self.each(|rank, j| steps[rank] = (dot(self.time, j) - least) as u32);
-        (greatest - least) as usize + 1
+        let mut places = vec![0; (greatest - least) as usize + 1];
+        self.each(|rank, j| {
+            let offset = dot(self.time, j) - least;
+            steps[rank] = offset as u32;
+            places[offset as usize] = 1;
+        });
+        let mut count = 0;
+        for place in &mut places {
+            let flag = *place;
+            *place = count;
+            count += flag;
+        }
+        for step in steps {
+            *step = places[*step as usize];
+        }
+        count as usize
     }
 
     /// r_i: the smallest positive number by which the projection of d becomes whole.
@@ -377,7 +393,7 @@ pub fn plan(nest: &Nest, tables: &mut Tables, lookup: Lookup) -> u8 {
         return 14;
     }
     let loops = Loops::new(nest);
-    let steps = loops.steps(&mut tables.steps);
+    let steps = loops.steps(&mut tables.steps[..n]);
     let groups = blocks(&loops, lookup, &mut tables.blocks);
     let of_blocks = processors(&groups, nest.cube);
     let mut seen = [false; 64];
