@@ -1,14 +1,17 @@
 //! The rules of a move written once more, to test the comparison with: as they are, and with a
-//! fault.
+//! fault; some faults are in the plan that a run begins on.
 
-use second::nest::LoopNest;
+use second::nest::{inner_product, LoopNest};
 use second::plan::Plan;
+use second::rational::greatest_common_divisor;
 
 use crate::entry::{Answer, Entry, Lent, Numbers, Planned, Request, COMPUTE, DELIVER};
 
 /// What a wrong entry does.
 #[derive(Clone, Copy, Debug, PartialEq, Eq)]
 pub enum Fault {
+    EmptyStepsNumbered,
+    StepsDividedByCommonFactor,
     LaterRankAtEqualSteps,
     StepsCompared16Bits,
     StepsComparedSigned,
@@ -352,11 +355,41 @@ impl Rules {
     }
 }
 
+/// How far the time of each iteration is from the earliest.
+fn times_from_first(nest: &LoopNest, plan: &Plan) -> Vec<i64> {
+    let points = plan.iterations.points.iter();
+    let times: Vec<i64> = points.map(|point| inner_product(&nest.time_vector, point)).collect();
+    let first = *times.iter().min().expect("at least one iteration");
+    times.iter().map(|time| time - first).collect()
+}
+
+/// The greatest number that divides all of a list; 1 if all are 0.
+fn common_factor(numbers: &[i64]) -> i64 {
+    let divisor = |divisor, &number| greatest_common_divisor(divisor, i128::from(number));
+    numbers.iter().fold(0, divisor).max(1) as i64
+}
+
+impl Rules {
+    /// The step of each iteration.
+    fn steps(&self, nest: &LoopNest, plan: &Plan) -> Vec<i64> {
+        let times = times_from_first(nest, plan);
+        match self.fault {
+            Some(EmptyStepsNumbered) => times,
+            Some(StepsDividedByCommonFactor) => {
+                let factor = common_factor(&times);
+                times.iter().map(|time| time / factor).collect()
+            }
+            _ => plan.partition.steps.clone(),
+        }
+    }
+}
+
 impl Entry for Rules {
     fn plan(&self, numbers: &Numbers, tables: Planned) -> u8 {
-        let plan = Plan::new(&Rules { fault: None }.nest_in(numbers));
-        for rank in 0..plan.iterations.count() {
-            tables.steps[rank] = plan.partition.steps[rank] as u32;
+        let nest = Rules { fault: None }.nest_in(numbers);
+        let plan = Plan::new(&nest);
+        for (rank, &step) in self.steps(&nest, &plan).iter().enumerate() {
+            tables.steps[rank] = step as u32;
             tables.processors[rank] = plan.mapping.processors[rank] as u8;
             tables.values[rank] = plan.values[rank] as u16;
         }

@@ -53,6 +53,7 @@ fn all_kinds_of_lists_nests_and_answers_come_up() {
     for (what, span) in spans {
         assert!(span.into_iter().all(|number| report.nests[&(what, number)] >= 1), "{what}");
     }
+    assert!(report.nests[&("times with gaps", 1)] >= 15);
     let answers = report.total().answers;
     assert!((2..=18).filter(|&number| number != 12).all(|number| answers[number] >= 20));
     assert_eq!(answers[12], 0, "12 is not used");
@@ -74,6 +75,8 @@ fn a_full_nest_has_the_most_iterations() {
 }
 
 const FAULTS: &[Fault] = &[
+    Fault::EmptyStepsNumbered,
+    Fault::StepsDividedByCommonFactor,
     Fault::LaterRankAtEqualSteps,
     Fault::StepsCompared16Bits,
     Fault::StepsComparedSigned,

@@ -6,6 +6,7 @@ use second::machine::ReferenceMachine;
 use second::nest::LoopNest;
 use second::plan::Plan;
 use second::text;
+use sheets::gaps::time_count;
 use sheets::Random;
 
 use crate::buffers::Contents;
@@ -53,7 +54,8 @@ pub struct Tally {
 #[derive(Default)]
 pub struct Report {
     pub tallies: BTreeMap<&'static str, Tally>,
-    /// How many accepted nests there were of each depth, cube dimension and number of dependences.
+    /// How many accepted nests there were of each depth, cube dimension and number of dependences,
+    /// and how many whose times have a gap (1) or none (0).
     pub nests: BTreeMap<(&'static str, i64), u64>,
     pub differences: Vec<String>,
 }
@@ -74,11 +76,13 @@ impl Report {
         }
     }
 
-    fn add_nest(&mut self, nest: &LoopNest) {
+    fn add_nest(&mut self, nest: &LoopNest, plan: &Plan) {
+        let has_gap = plan.partition.step_count < time_count(nest);
         let numbers = [
             ("depth", nest.depth),
             ("cube dimension", nest.cube_dimension),
             ("dependences", nest.dependence_count),
+            ("times with gaps", i64::from(has_gap)),
         ];
         for key in numbers {
             *self.nests.entry(key).or_default() += 1;
@@ -252,7 +256,7 @@ fn try_accepted(
     let places = Places::of_plan(nest, &plan);
     let subject = Accepted { entry, nest, numbers, judge: Judge::new(nest), plan, places };
     let mut machine = ReferenceMachine::new(nest);
-    report.add_nest(nest);
+    report.add_nest(nest, &subject.plan);
     let place = || text::write(nest);
     for _ in 0..FRESH_LISTS {
         report.add(FRESH, subject.any_moves(random, &mut machine), place);

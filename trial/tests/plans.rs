@@ -8,6 +8,7 @@ use second::listing::listing;
 use second::nest::LoopNest;
 use second::plan::Plan;
 use second::text;
+use sheets::gaps::{corners, time_count};
 use sheets::Random;
 use trial::nests;
 
@@ -71,6 +72,16 @@ impl Tables {
     }
 }
 
+/// Stops unless the steps of all iterations are 0, 1, .. up to the last one that is counted, and
+/// each is the step of some iteration.
+fn assert_no_empty_step(tables: &Tables) {
+    let [iterations, count, ..] = tables.counts;
+    let mut steps = tables.steps[..iterations].to_vec();
+    steps.sort();
+    steps.dedup();
+    assert!(steps.into_iter().eq(0..count as u32), "{tables:?}");
+}
+
 /// Plans a nest on tables of so many entries and compares with what must be answered and left.
 fn compare_planning(nest: &Nest, entries: [usize; 4], expected: Result<&Plan, u8>) {
     let before = Tables::new(entries);
@@ -89,6 +100,7 @@ fn compare_planning(nest: &Nest, entries: [usize; 4], expected: Result<&Plan, u8
         Ok(plan) => {
             let [iterations, steps, blocks, processors, messages] = tables.counts;
             assert_eq!((number, &tables), (0, &before.planned(plan)), "{nest:?}");
+            assert_no_empty_step(&tables);
             assert_eq!(result, Ok(Counts { iterations, steps, blocks, processors, messages }));
         }
         Err(refusal) => {
@@ -117,8 +129,9 @@ fn compare_filling(nest: &Nest, entries: usize, expected: Result<&Plan, u8>) {
     }
 }
 
-/// An accepted nest on tables of every length around the number of its iterations.
-fn compare_accepted(random: &mut Random, nest: &LoopNest) {
+/// An accepted nest on tables of every length around the number of its iterations. Answers whether
+/// it has fewer steps than there are whole numbers from its earliest time to its latest.
+fn compare_accepted(random: &mut Random, nest: &LoopNest) -> bool {
     let plan = Plan::new(nest);
     let (n, lent) = (plan.iterations.count(), lent(random, nest));
     for more in [0, 1, 9] {
@@ -133,16 +146,30 @@ fn compare_accepted(random: &mut Random, nest: &LoopNest) {
             compare_filling(&lent, entries, Err(14));
         }
     }
+    plan.partition.step_count < time_count(nest)
 }
 
 #[test]
 fn accepted_nests_are_planned_where_there_is_room() {
     let mut random = Random::new(21);
+    let mut with_gaps = 0;
     for nest in accepted(6, 150) {
-        compare_accepted(&mut random, &nest);
+        with_gaps += u64::from(compare_accepted(&mut random, &nest));
     }
+    assert!(with_gaps >= 50, "too few to see steps that nobody works in: {with_gaps}");
     let full = nests::full(&mut random);
     compare_accepted(&mut random, &full);
+}
+
+#[test]
+fn nests_at_the_corners_of_steps_are_planned_alike() {
+    let mut random = Random::new(25);
+    let corners = corners(&mut random);
+    let with_gaps: Vec<bool> =
+        corners.iter().map(|nest| compare_accepted(&mut random, nest)).collect();
+    // all have gaps but for one iteration alone, which has one time
+    let expected: Vec<bool> = corners.iter().map(|nest| nest.iteration_count() > 1).collect();
+    assert_eq!(with_gaps, expected);
 }
 
 #[test]
