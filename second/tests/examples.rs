@@ -1,5 +1,6 @@
 //! Document 01's examples P1 to P10, its listing in full, the counts that source document 000
-//! gives for its loops L1 and L2, and nests worked out by hand.
+//! gives for its loops L1 and L2, nests worked out by hand, and document 02's steps (U2) in sheets
+//! worked out by hand.
 
 use std::fs;
 
@@ -340,10 +341,90 @@ fn nests_by_name() -> Vec<(&'static str, LoopNest)> {
     ]
 }
 
+/// The same of the sheets whose times P·j have gaps (document 02, U2): two processors, and equal
+/// limits in both loops.
+fn nests_with_gaps() -> Vec<(&'static str, LoopNest)> {
+    let with = |upper: i64, time: [i64; 2], dependences: &[&[i64]]| {
+        changed(silent_nest(2), |nest| {
+            nest.cube_dimension = 1;
+            nest.upper = vec![upper; 2];
+            nest.time_vector = time.to_vec();
+            set_dependences(nest, dependences);
+        })
+    };
+    vec![
+        ("U2-common-factor", with(2, [2, 2], &[&[0, 1], &[1, 0]])),
+        ("U2-no-common-factor", with(1, [2, 3], &[&[0, 1], &[1, 0]])),
+        ("U2-both-ends", with(2, [16, -16], &[&[1, 0], &[1, -1]])),
+    ]
+}
+
+/// The listing of a sheet in examples/, line by line, as numbers.
+fn listed(name: &str) -> Vec<Vec<i64>> {
+    let folder = concat!(env!("CARGO_MANIFEST_DIR"), "/../examples");
+    let listing = listing(&fs::read(format!("{folder}/{name}.txt")).unwrap());
+    let number = |field: &str| field.parse().unwrap();
+    listing.lines().map(|line| line.split_whitespace().map(number).collect()).collect()
+}
+
+/// The times are 2(i + j): 0 2 4, 2 4 6, 4 6 8, five of them. (0,1) is projected to (-1/2,1/2), so
+/// u is j - i and r is 2: q is 0 0 1, -1 0 0, -1 -1 0. Of the parts (q + 1) * 2 / 3 only that of
+/// q = 1 is 1: the iteration (0,2), which has a message each from (0,1) and to (1,2). A value is
+/// the rank with what is on the left and what is above.
+#[test]
+fn a_time_vector_with_a_common_factor() {
+    let expected = [
+        [9, 5, 3, 2, 2],
+        [0, 0, 0, 0, 2],
+        [1, 1, 0, 0, 4],
+        [2, 2, 1, 1, 7],
+        [3, 1, 2, 0, 6],
+        [4, 2, 0, 0, 14],
+        [5, 3, 0, 0, 26],
+        [6, 2, 2, 0, 13],
+        [7, 3, 2, 0, 34],
+        [8, 4, 0, 0, 68],
+    ];
+    assert_eq!(listed("U2-common-factor"), expected);
+}
+
+/// The times are 0 3, 2 5: nothing but 1 divides them all, and 1 and 4 are missing. s is 13; (0,1)
+/// is projected to (-6,4)/13 and (1,0) to -3/2 of that. So r is 13, and each row is a class and a
+/// block. The one bit goes to the class: each row has its processor, and the second row's
+/// iterations have a message each from above.
+#[test]
+fn a_time_vector_without_a_common_factor() {
+    let expected =
+        [[4, 4, 2, 2, 2], [0, 0, 0, 0, 2], [1, 2, 0, 0, 4], [2, 1, 1, 1, 5], [3, 3, 1, 1, 12]];
+    assert_eq!(listed("U2-no-common-factor"), expected);
+}
+
+/// The times are 16(i - j): 0 -16 -32, 16 0 -16, 32 16 0; the earliest is at the end of the first
+/// row. (1,0) is projected to (1/2,1/2) and (1,-1) to zero, so u is i + j and r is 2: q is 0 0 1,
+/// 0 1 1, 1 1 2. Of the parts q * 2 / 3 only that of q = 2 is 1: the iteration (2,2), with a
+/// message from (1,2); its other source is outside. A value is the rank with what is above and
+/// what is on the right of that.
+#[test]
+fn a_time_vector_at_both_ends_of_its_span() {
+    let expected = [
+        [9, 5, 3, 2, 1],
+        [0, 2, 0, 0, 2],
+        [1, 1, 0, 0, 3],
+        [2, 0, 1, 0, 4],
+        [3, 3, 0, 0, 8],
+        [4, 2, 1, 0, 11],
+        [5, 1, 1, 0, 10],
+        [6, 4, 1, 0, 25],
+        [7, 3, 1, 0, 28],
+        [8, 2, 2, 1, 19],
+    ];
+    assert_eq!(listed("U2-both-ends"), expected);
+}
+
 #[test]
 fn the_sheets_in_examples_are_those_of_the_table() {
     let folder = concat!(env!("CARGO_MANIFEST_DIR"), "/../examples");
-    let nests = nests_by_name();
+    let nests = [nests_by_name(), nests_with_gaps()].concat();
     for (name, nest) in &nests {
         let sheet = fs::read_to_string(format!("{folder}/{name}.txt")).unwrap();
         assert_eq!(sheet, text::write(nest), "{name}");
