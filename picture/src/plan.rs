@@ -110,15 +110,16 @@ impl Plan {
         }
     }
 
+    /// The counts are those of the lines below: iterations, different steps, blocks and processors,
+    /// and messages.
     fn check_counts(&self) -> Result<(), Complaint> {
         let different = |number: fn(&Entry) -> i64| {
             self.entries.iter().map(number).collect::<HashSet<i64>>().len() as i64
         };
-        let steps = 1 + self.entries.iter().map(|entry| entry.step).max().unwrap_or(-1);
         let messages = self.links().iter().filter(|link| self.is_message(link)).count() as i64;
         let found = [
             ("iterations", self.entries.len() as i64),
-            ("steps", steps),
+            ("steps", different(|entry| entry.step)),
             ("blocks", different(|entry| entry.block)),
             ("processors", different(|entry| entry.processor)),
             ("messages", messages),

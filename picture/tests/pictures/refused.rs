@@ -73,6 +73,15 @@ fn a_listing_whose_counts_are_not_its_own() {
 }
 
 #[test]
+fn a_listing_with_a_step_that_no_iteration_has() {
+    // Ranks 2 and 4 at step 3: then steps 0, 1 and 3 are there, and 2 is not.
+    let listing = P2_LISTING
+        .replace("     2     2     1     1    33\n", "     2     3     1     1    33\n")
+        .replace("     4     2     0     0    86\n", "     4     3     0     0    86\n");
+    assert_eq!(complaint(P2_SHEET, &listing), "the listing counts 4 steps, and has 3");
+}
+
+#[test]
 fn a_listing_with_numbers_that_are_not_there() {
     let line = "     2     2     1     1    33\n";
     let wrong = [
