@@ -110,8 +110,10 @@ uint8_t rowlock_locate(const struct rowlock_nest *nest, size_t entries, int64_t 
 uint8_t rowlock_fill(const struct rowlock_nest *nest, uint16_t *values, size_t values_length);
 
 /* The plan of a nest: the step, block, processor and value of each iteration, in loop order; the
- * entries behind the last iteration stay. The counts are those of iterations, steps, blocks,
- * processors that hold an iteration, and messages. Refusals 2 to 14. */
+ * entries behind the last iteration stay. A step is the number of distinct smaller values that the
+ * inner product of time vector and index point takes among the iterations, so each step has one.
+ * The counts are those of iterations, steps, blocks, processors that hold an iteration, and
+ * messages. Refusals 2 to 14. */
 uint8_t rowlock_plan(const struct rowlock_nest *nest, uint32_t *steps, size_t steps_length,
                      uint16_t *blocks, size_t blocks_length, uint8_t *processors,
                      size_t processors_length, uint16_t *values, size_t values_length,

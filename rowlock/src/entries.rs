@@ -8,6 +8,7 @@ use crate::{exported, Nest, Refusal};
 #[derive(Clone, Copy, Debug, PartialEq, Eq)]
 pub struct Counts {
     pub iterations: usize,
+    /// Each step has an iteration.
     pub steps: usize,
     pub blocks: usize,
     /// Processors that hold an iteration.
@@ -82,7 +83,9 @@ pub fn fill(nest: &Nest, values: &mut [u16]) -> Result<(), Refusal> {
 }
 
 /// The plan of a nest: the step, block, processor and value of each iteration, in loop order;
-/// answers its counts. The entries behind the last iteration stay. Refusals 2 to 14.
+/// answers its counts. A step is the number of distinct smaller values that the inner product of
+/// time vector and index point takes among the iterations. The entries behind the last iteration
+/// stay. Refusals 2 to 14.
 pub fn plan(
     nest: &Nest,
     steps: &mut [u32],
