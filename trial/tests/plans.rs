@@ -240,10 +240,17 @@ fn the_longest_listing_fills_the_most_bytes() {
     assert_eq!(rowlock::list(text.as_bytes(), &mut buffer), Ok(MAX_LISTING));
 }
 
+/// A full nest, and those at the corners of steps: one has its times as far apart as can be.
 #[test]
 fn half_a_megabyte_of_stack_is_enough() {
-    let text = text::write(&nests::full(&mut Random::new(24)));
-    let listed = move || rowlock::list(text.as_bytes(), &mut vec![0; MAX_LISTING]);
-    let thread = std::thread::Builder::new().stack_size(512 << 10).spawn(listed).expect("a thread");
-    assert_eq!(thread.join().expect("the listing is made"), Ok(MAX_LISTING));
+    let mut random = Random::new(24);
+    let full = nests::full(&mut random);
+    for nest in [vec![full], corners(&mut random)].concat() {
+        let text = text::write(&nest);
+        let length = listing(text.as_bytes()).len();
+        let listed = move || rowlock::list(text.as_bytes(), &mut vec![0; MAX_LISTING]);
+        let small = std::thread::Builder::new().stack_size(512 << 10);
+        let thread = small.spawn(listed).expect("a thread");
+        assert_eq!(thread.join().expect("the listing is made"), Ok(length));
+    }
 }

@@ -175,7 +175,10 @@ fn the_program_runs_on_a_stack_of_512_kib() {
         "     3     1     6\n     0    15\n     0    15\n     0    15\n    16    15    13\n";
     let scattered = format!("{lines}     0     0     1\n     1     1\n");
     let square = fs::read_to_string(root().join("examples/P9.txt")).expect("a sheet");
-    for text in [scattered, square] {
+    // 2 x 2001 iterations whose times are as far apart as can be, by 32016
+    let lines = "     2     1     6\n     0     1\n -1000  1000\n   -16    16\n";
+    let wide = format!("{lines}     0     1\n     1     1\n");
+    for text in [scattered, square, wide] {
         assert_planned(&plan(&[], text.as_bytes()), text.as_bytes(), "on the usual stack");
         let sheet = place("stack.txt");
         fs::write(&sheet, &text).expect("a copy");
