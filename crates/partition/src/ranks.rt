@@ -13,7 +13,8 @@ ghost use Rattle.partition.specs.KeySteps.{Counted, Cleared, flags, stan
 // Up to so many values from the least P·j to the greatest, the table of flags is small.
 const FEW_VALUES: usize = 4096;
 
-// There are no more in any nest that document 02 allows: four loops, whose limits need not be a box.
+// There are no more in any nest that document 02 allows: four loops, whose limits need not be a
+// box.
 const MAX_VALUES: usize = 2
     * (COMPONENTS * (LoopNest::MAX_COMPONENT as usize * LoopNest::MAX_LIMIT as usize))
     + 1;

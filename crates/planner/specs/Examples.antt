@@ -283,14 +283,15 @@ pub examples-hold : all (λ c. all (says (c .nest)) (c .facts)) table ≡ true
 unfolding any all first place firstsAfter firsts count repeats tab greatest firstFrom dots plus times eqZ eqV
     isZeroV floorDiv toℕ part limitsOf timeOf dependencesOf weightsOf padded nestOf emptyNest extent indices points
     pointsOf pointCount rank isPoint source number outside crossed outOfSpan backward against holds firstMet refusal
-    orElse sourceRank blanksOf allDigits valueOf digitsOf signedOf readOf digitsTo numeralOf fieldOf line linesOf isLine
-    numbersOf areLines lineNumbers widths shapes fits firstFitting isHeaded headerWidthOf headerNumbers headed
-    headerOf restOf isShaped bodyNumbers nestFrom bodyOf readRefusal readNest textOf bytes lines projection divides
-    makesWhole multiplier groupSize leastZ distinctProducts step stepNumber pivot clear remainder mayGroup
-    groupingVector extend chosenVectors chosenCount latest coefficients left isCombination frame directions difference sameClass coordinates seeds eqG
-    quotients classNumber group blocks blockNumber stepsOf stepCount frameOf groupsOf blocksOf blockCount inOrder
-    greatestZ direction undealt takesBit withBit noDirection nextTurn dealBit dealBits dealt gray partOf joined
-    processor directionsOf processorsOf processorCount crosses isMessage total messageCount sourceValue madeOf loop
-    sequential weightedSum ruleOf valuesOf countsOf rowOf planLines planText listing eqN below isSome pairs says
-    vector nestWith L1 L2 two one ungrouped uneven rowOf64 grayCodes listed listedText listedPlan table flatMap zipWith
+    orElse sourceRank blanksOf allDigits valueOf digitsOf signedOf readOf digitsTo numeralOf fieldOf line linesOf
+    isLine numbersOf areLines lineNumbers widths shapes fits firstFitting isHeaded headerWidthOf headerNumbers
+    headed headerOf restOf isShaped bodyNumbers nestFrom bodyOf readRefusal readNest textOf bytes lines projection
+    divides makesWhole multiplier groupSize leastZ distinctProducts step stepNumber pivot clear remainder mayGroup
+    groupingVector extend chosenVectors chosenCount latest coefficients left isCombination frame directions
+    difference sameClass coordinates seeds eqG quotients classNumber group blocks blockNumber stepsOf stepCount
+    frameOf groupsOf blocksOf blockCount inOrder greatestZ direction undealt takesBit withBit noDirection nextTurn
+    dealBit dealBits dealt gray partOf joined processor directionsOf processorsOf processorCount crosses isMessage
+    total messageCount sourceValue madeOf loop sequential weightedSum ruleOf valuesOf countsOf rowOf planLines
+    planText listing eqN below isSome pairs says vector nestWith L1 L2 two one ungrouped uneven rowOf64 grayCodes
+    listed listedText listedPlan table flatMap zipWith
 examples-hold = refl
