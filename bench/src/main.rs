@@ -46,6 +46,12 @@ fn many_classes(extents: &[i64; 3]) -> Nest {
     nest::with_extents(extents, &[16, 15, 13], &[&[16, -15, 0], &[13, 0, -15]], 6)
 }
 
+/// A nest whose values of P·j are 16 apart: of the 16033 numbers from the least to the greatest 1003
+/// are some iteration's.
+fn far_apart() -> Nest {
+    nest::with_extents(&[4, 1000], &[-16, 16], &[&[0, 1], &[1, 2]], 6)
+}
+
 /// Pseudo-random numbers.
 struct Random(u64);
 
@@ -164,6 +170,7 @@ fn nests(scale: usize) -> Vec<(&'static str, Nest, usize)> {
         ("L1, 16 x 16", l1(16), 200 * scale),
         ("L2, 4 x 8 x 8", l2(&[4, 8, 8]), 200 * scale),
         ("4035 classes, 16 x 16 x 16", many_classes(&[16, 16, 16]), 2 * scale),
+        ("4 x 1000, P·j 16 apart", far_apart(), 40 * scale),
     ]
 }
 
