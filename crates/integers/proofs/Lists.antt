@@ -12,7 +12,7 @@ use borrow.Author.Tests.{ltb-true, ltb-false}
 use lib.Dec.{T, ltb}
 use lib.ListN.{length, getD, drop, length-append, List·getD-append}
 use lib.Seq.{getD-at, ext-getD, drop-cons, drop-length}
-use Rattle.integers.specs.Lists.{any, all, first, place, count, repeats, tab}
+use Rattle.integers.specs.Lists.{any, place, count, repeats, tab}
 
 -- ---- outcomes of tests
 pub true-T : {b : Bool} → b ≡ true → T b

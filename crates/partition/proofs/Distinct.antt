@@ -1,12 +1,11 @@
 -- The distinct values of a list of integers, and how many of them are below a number: it grows with the number, by 1 at each value and nowhere else, so every
--- number below the count of distinct values is the rank of one of them. Assumes nothing.
+-- number below the count of distinct values is the ordinal of one of them. Assumes nothing.
 use mathlib.Core.Path.{_≡_, refl, sym, ap, subst, _∙_}
 use mathlib.Core.Bool.{Bool, true, false, not}
 use mathlib.Core.Logic.{_⊎_, inl, inr, ⊎-elim}
 use mathlib.Core.List.{List, [], _∷_, map, List·Memᴰ, List·Memᴰ·head, List·Memᴰ·tail}
 use Prim.Native.Nat.{ℕ, zero, suc, _+_, _<_, _≤_}
 use native.Mathlib.Numerals.{add-one}
-use native.Mathlib.Nat.{not-suc-le-zero}
 use native.Mathlib.Omega.{arith}
 use borrow.Author.Tests.{eqb-true, eqb-false}
 use lib.Dec.{T, eqb}
@@ -158,7 +157,7 @@ module _ (xs : List ℤ) where
         split (any (eqZ z) xs) (λ t. (z, any-there z xs t, omega (arith, h, l, n, one-yes (any (eqZ z) xs) t))) (λ f. absurd (omega (arith, h, l, n, one-no (any (eqZ z) xs) f))))
         (below-or-not b (below z))
 
-  -- every number below the count is the rank of some value
+  -- every number below the count is the ordinal of some value
   pub below-used : (b : ℕ) → b < length distinct → (z : ℤ) × List·Memᴰ z xs × (below z ≡ b)
   below-used b h =
       let a = leastZ xs in
@@ -170,10 +169,10 @@ module _ (xs : List ℤ) where
 -- ---- of numbers that are all counted from one
 module _ (a : ℤ) (xs : List ℕ) where
   -- the numbers themselves
-  abbrev pub raisedBy : List ℤ
-  raisedBy = map (λ x. a +ℤ pos x) xs
+  abbrev pub countedFrom : List ℤ
+  countedFrom = map (λ x. a +ℤ pos x) xs
 
-  low : (z : ℤ) → List·Memᴰ z raisedBy → a ≤ℤ z
+  low : (z : ℤ) → List·Memᴰ z countedFrom → a ≤ℤ z
   low z m = let r = mem-map (λ x. a +ℤ pos x) xs z m in omega (ints, sum a (pos (r .0)), r .2)
 
   -- a number stands among them exactly if its distance from a stands in the list
@@ -190,10 +189,10 @@ module _ (a : ℤ) (xs : List ℕ) where
           (λ f. eqZ-other (a +ℤ pos u) (a +ℤ pos y) (λ e. eqb-false u y f (omega (ints, sum a (pos u), sum a (pos y)))) ∙ sym f)
 
   -- so many of the distinct ones are below a + v
-  pub below-standing : (v : ℕ) → below raisedBy (a +ℤ pos v) ≡ standing xs v
-  below-standing v = below-counted raisedBy a low v ∙ (λ i. count (λ u. stands u xs i) (tab (λ u. u) v))
+  pub below-standing : (v : ℕ) → below countedFrom (a +ℤ pos v) ≡ standing xs v
+  below-standing v = below-counted countedFrom a low v ∙ (λ i. count (λ u. stands u xs i) (tab (λ u. u) v))
 
   -- and there are so many, where v is above each
-  pub distinct-standing : (v : ℕ) → ((x : ℕ) → List·Memᴰ x xs → x < v) → length (distinct raisedBy) ≡ standing xs v
+  pub distinct-standing : (v : ℕ) → ((x : ℕ) → List·Memᴰ x xs → x < v) → length (distinct countedFrom) ≡ standing xs v
   distinct-standing v h =
-      sym (below-all raisedBy (a +ℤ pos v) (λ z m. let r = mem-map (λ x. a +ℤ pos x) xs z m in let l = h (r .0) (r .1) in omega (ints, sum a (pos (r .0)), sum a (pos v), r .2))) ∙ below-standing v
+      sym (below-all countedFrom (a +ℤ pos v) (λ z m. let r = mem-map (λ x. a +ℤ pos x) xs z m in let l = h (r .0) (r .1) in omega (ints, sum a (pos (r .0)), sum a (pos v), r .2))) ∙ below-standing v

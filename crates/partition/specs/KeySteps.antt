@@ -38,7 +38,7 @@ maxProduct = maxDepth * (maxComponent * maxLimit)
 abbrev pub raised : ℤ → ℕ
 raised product = toℕ (product +ℤ pos maxProduct)
 
--- ---- the ranks of numbers, which are counted from the least P·j
+-- ---- the ordinals of numbers, which are counted from the least P·j
 
 -- one for each value from the least to the greatest: no more in any nest that document 02 allows,
 -- with four loops whose limits need not be a box
@@ -69,6 +69,6 @@ standing xs v = count (λ u. any (eqb u) xs) (tab (λ u. u) v)
 
 -- the first numbers of a table, each in its place how many smaller ones stand among them, and what
 -- stood behind them
-abbrev pub ranked : List ℕ → ℕ → List ℕ
-ranked numbers n =
+abbrev pub ordinals : List ℕ → ℕ → List ℕ
+ordinals numbers n =
     tab (λ k. standing (take n numbers) (getD numbers k 0)) n ++ drop n numbers

@@ -1,5 +1,5 @@
-// The rank of each number of a table among the distinct ones: a flag for each number that stands
-// there, then a running count of the flags.
+// The ordinal of each number of a table: how many distinct smaller ones stand there. A flag for each
+// number that does, then a running count of the flags.
 use nest::LoopNest;
 use numbering::COMPONENTS;
 ghost use mathlib.Core.Path.{_≡_};
@@ -8,7 +8,7 @@ ghost use Prim.Native.Nat.{ℕ, _<_, _≤_};
 ghost use lib.ListN.{length, getD, take, drop};
 ghost use Rattle.integers.specs.Lists.{tab, total};
 ghost use Rattle.nest.specs.Nest.{maxIterations};
-ghost use Rattle.partition.specs.KeySteps.{Counted, Cleared, flags, standing, ranked, fewValues, maxValues};
+ghost use Rattle.partition.specs.KeySteps.{Counted, Cleared, flags, standing, ordinals, fewValues, maxValues};
 
 // Up to so many values from the least P·j to the greatest, the table of flags is small.
 const FEW_VALUES: usize = 4096;
@@ -64,12 +64,12 @@ fn look_up(numbers: &mut [u32], count: usize, table: &[u16])
     }
 }
 
-// Each of `count` numbers below `range` becomes its rank, with a table for the flags; answers how
+// Each of `count` numbers below `range` becomes its ordinal, with a table for the flags; answers how
 // many distinct ones there are.
-fn rank_within(numbers: &mut [u32], count: usize, range: usize, table: &mut [u16]) -> usize
+fn ordinals_within(numbers: &mut [u32], count: usize, range: usize, table: &mut [u16]) -> usize
     requires { ⌜ Counted (now numbers) count range × (range ≤ length (now table)) × Cleared (now table) ⌝ }
     ensures { λ r. ⌜ r ≡ standing (take count (now (numbers .entry))) range ⌝ }
-    ensures { λ r. ⌜ now (numbers .exit) ≡ ranked (now (numbers .entry)) count ⌝ }
+    ensures { λ r. ⌜ now (numbers .exit) ≡ ordinals (now (numbers .entry)) count ⌝ }
 {
     mark(numbers, count, table);
     let many = running(table, range);
@@ -78,33 +78,33 @@ fn rank_within(numbers: &mut [u32], count: usize, range: usize, table: &mut [u16
 }
 
 // The same, in a table of its own for few values.
-fn rank_few(numbers: &mut [u32], count: usize, range: usize) -> usize
+fn ordinals_few(numbers: &mut [u32], count: usize, range: usize) -> usize
     requires { ⌜ Counted (now numbers) count range × (range ≤ fewValues) ⌝ }
     ensures { λ r. ⌜ r ≡ standing (take count (now (numbers .entry))) range ⌝ }
-    ensures { λ r. ⌜ now (numbers .exit) ≡ ranked (now (numbers .entry)) count ⌝ }
+    ensures { λ r. ⌜ now (numbers .exit) ≡ ordinals (now (numbers .entry)) count ⌝ }
 {
     let mut table = [0u16; FEW_VALUES];
-    rank_within(numbers, count, range, &mut table)
+    ordinals_within(numbers, count, range, &mut table)
 }
 
 // The same, in a table of its own for as many values as there may be.
-fn rank_many(numbers: &mut [u32], count: usize, range: usize) -> usize
+fn ordinals_many(numbers: &mut [u32], count: usize, range: usize) -> usize
     requires { ⌜ Counted (now numbers) count range × (range ≤ maxValues) ⌝ }
     ensures { λ r. ⌜ r ≡ standing (take count (now (numbers .entry))) range ⌝ }
-    ensures { λ r. ⌜ now (numbers .exit) ≡ ranked (now (numbers .entry)) count ⌝ }
+    ensures { λ r. ⌜ now (numbers .exit) ≡ ordinals (now (numbers .entry)) count ⌝ }
 {
     let mut table = [0u16; MAX_VALUES];
-    rank_within(numbers, count, range, &mut table)
+    ordinals_within(numbers, count, range, &mut table)
 }
 
 // The same: the table is no larger than the values ask, since it is cleared whole.
-pub fn rank_all(numbers: &mut [u32], count: usize, range: usize) -> usize
+pub fn ordinals_into(numbers: &mut [u32], count: usize, range: usize) -> usize
     requires { ⌜ Counted (now numbers) count range × (range ≤ maxValues) ⌝ }
     ensures { λ r. ⌜ r ≡ standing (take count (now (numbers .entry))) range ⌝ }
-    ensures { λ r. ⌜ now (numbers .exit) ≡ ranked (now (numbers .entry)) count ⌝ }
+    ensures { λ r. ⌜ now (numbers .exit) ≡ ordinals (now (numbers .entry)) count ⌝ }
 {
     if range <= FEW_VALUES {
-        return rank_few(numbers, count, range);
+        return ordinals_few(numbers, count, range);
     }
-    rank_many(numbers, count, range)
+    ordinals_many(numbers, count, range)
 }

@@ -7,8 +7,8 @@ use native.Mathlib.Omega.{arith}
 use lib.ListN.{length, getD, drop}
 use Rattle.integers.specs.Lists.{tab}
 use Rattle.numbering.proofs.Filled.{filledTo, filled-none, filled-length, filled-next, filled-more}
-use Rattle.partition.proofs.ranks.look_up.Statement.{statement}
-use Rattle.partition.proofs.ranks.look_up.Tie as tie
+use Rattle.partition.proofs.ordinals.look_up.Statement.{statement}
+use Rattle.partition.proofs.ordinals.look_up.Tie as tie
 
 -- the entry at the place that number k names
 abbrev entry : List ℕ → List ℕ → ℕ → ℕ

@@ -1,13 +1,11 @@
--- `rank_within` meets its contract: flags, their running count, and the ranks looked up in it. Assumes nothing.
+-- `ordinals_within` meets its contract: flags, their running count, and the ordinals looked up in it. Assumes nothing.
 use borrow.Author.Needs.{needs}
-use mathlib.Core.Path.{_≡_}
 use mathlib.Core.List.{List}
 use Prim.Native.Nat.{ℕ}
 use native.Mathlib.Omega.{arith}
-use lib.ListN.{length}
-use Rattle.partition.proofs.RankLaws.{marked-length, sums-few, numbers-counted, ranks-made}
-use Rattle.partition.proofs.ranks.rank_within.Statement.{statement}
-use Rattle.partition.proofs.ranks.rank_within.Tie as tie
+use Rattle.partition.proofs.OrdinalLaws.{marked-length, sums-few, numbers-counted, ordinals-made}
+use Rattle.partition.proofs.ordinals.ordinals_within.Statement.{statement}
+use Rattle.partition.proofs.ordinals.ordinals_within.Tie as tie
 
 mark-requires : tie.Need-mark-requires
 mark-requires c κs =
@@ -55,10 +53,10 @@ returns c =
     let r = x .before .before .before .before .before in
     let m = r .before .before .before .before in
     let d = start m in
-    ranks-made (d .args .numbers .now) (d .args .table .now) (d .args .count) (d .args .range) (d .pre .0) (d .pre .1) (flagged m) (m .mark .ensures) (sums r) (r .running .ensures .1) (x .look-up .last .0) (r .running .result)
+    ordinals-made (d .args .numbers .now) (d .args .table .now) (d .args .count) (d .args .range) (d .pre .0) (d .pre .1) (flagged m) (m .mark .ensures) (sums r) (r .running .ensures .1) (x .look-up .last .0) (r .running .result)
     (r .running .ensures .0) (x .look-up .ensures)
 
-pub rank-within-spec : {M : Type 1} → statement M
-rank-within-spec =
+pub ordinals-within-spec : {M : Type 1} → statement M
+ordinals-within-spec =
     tie.close
     (tie.spec mark-requires running-requires look-up-requires same-length same-length-2 returns)

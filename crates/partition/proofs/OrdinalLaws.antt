@@ -1,19 +1,19 @@
 -- Flags for the numbers of a list, one number more at a time, and the running count of the flags. Assumes nothing.
-use mathlib.Core.Path.{_≡_, refl, sym, ap, ap₂, _∙_}
+use mathlib.Core.Path.{_≡_, refl, sym, ap, _∙_}
 use mathlib.Core.Bool.{Bool, true, false, _||_}
 use mathlib.Core.List.{List, [], _∷_, _++_}
-use Prim.Native.Nat.{ℕ, suc, _+_, _<_, _≤_}
+use Prim.Native.Nat.{ℕ, _+_, _<_, _≤_}
 use native.Mathlib.Numerals.{add-one}
 use native.Mathlib.Omega.{arith}
-use borrow.Author.Tests.{eqb-true, eqb-false, eq-eqb}
+use borrow.Author.Tests.{eqb-true, eqb-false}
 use lib.Dec.{eqb}
 use lib.ListN.{length, getD, take, drop, set, length-set, length-append, length-drop, List·getD-append}
 use lib.Seq.{take-suc, getD-set-same, getD-set-other, length-take-le}
-use Rattle.integers.specs.Lists.{any, tab, count, oneIf, total}
-use Rattle.integers.proofs.Lists.{any-append, any-one, or-left, or-right, or-false, split, length-tab, getD-tab, tab-list, tab-same}
+use Rattle.integers.specs.Lists.{any, tab, oneIf, total}
+use Rattle.integers.proofs.Lists.{any-append, any-one, or-right, split, length-tab, getD-tab, tab-list, tab-same}
 use Rattle.integers.proofs.Sums.{one-yes, one-no, count-total, count-standing}
 use Rattle.nest.specs.Nest.{maxIterations}
-use Rattle.partition.specs.KeySteps.{Counted, Cleared, flags, standing, ranked}
+use Rattle.partition.specs.KeySteps.{Counted, Cleared, flags, standing, ordinals}
 
 -- ---- flags
 
@@ -95,18 +95,18 @@ module _ (numbers table : List ℕ) (many range : ℕ) (C : Counted numbers many
       pub numbers-counted : Counted numbers many (length sums)
       numbers-counted = record { room = C .room; few = C .few; small = λ k h. omega (arith, C .small k h, sums-length, room) }
 
-      -- the entry at the place of number k is its rank
-      rank-is : (k : ℕ) → k < many → getD sums (getD numbers k 0) 0 ≡ standing xs (getD numbers k 0)
-      rank-is k h =
+      -- the entry at the place of number k is its ordinal
+      ordinal-is : (k : ℕ) → k < many → getD sums (getD numbers k 0) 0 ≡ standing xs (getD numbers k 0)
+      ordinal-is k h =
           let x = getD numbers k 0 in
           let l = C .small k h in
           ap (λ (t : List ℕ). getD t x 0) counted ∙ List·getD-append (tab (sumBefore set) range) (drop range set) 0 x (omega (arith, l, length-tab (sumBefore set) range))
           ∙ getD-tab (sumBefore set) range x 0 l ∙ sum-is x (omega (arith, l))
 
-      -- so they make the ranks
-      pub ranks-made : (new : List ℕ) (r : ℕ) → r ≡ sumBefore set range → new ≡ tab (λ k. getD sums (getD numbers k 0) 0) many ++ drop many numbers
-          → (r ≡ standing xs range) × (new ≡ ranked numbers many)
-      ranks-made new r e w = (
+      -- so they make the ordinals
+      pub ordinals-made : (new : List ℕ) (r : ℕ) → r ≡ sumBefore set range → new ≡ tab (λ k. getD sums (getD numbers k 0) 0) many ++ drop many numbers
+          → (r ≡ standing xs range) × (new ≡ ordinals numbers many)
+      ordinals-made new r e w = (
         e ∙ sum-is range (omega arith),
-        w ∙ ap (λ (t : List ℕ). t ++ drop many numbers) (tab-same (λ k. getD sums (getD numbers k 0) 0) (λ k. standing xs (getD numbers k 0)) many rank-is),
+        w ∙ ap (λ (t : List ℕ). t ++ drop many numbers) (tab-same (λ k. getD sums (getD numbers k 0) 0) (λ k. standing xs (getD numbers k 0)) many ordinal-is),
       )

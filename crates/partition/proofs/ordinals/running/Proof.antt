@@ -9,8 +9,8 @@ use lib.ListN.{length, getD, drop}
 use Rattle.integers.specs.Lists.{tab, total}
 use Rattle.integers.proofs.Sums.{total-tab-more, total-none}
 use Rattle.numbering.proofs.Filled.{filledTo, filled-none, filled-length, filled-next, filled-more}
-use Rattle.partition.proofs.ranks.running.Statement.{statement}
-use Rattle.partition.proofs.ranks.running.Tie as tie
+use Rattle.partition.proofs.ordinals.running.Statement.{statement}
+use Rattle.partition.proofs.ordinals.running.Tie as tie
 
 -- the sum of the entries before place v
 abbrev before : List ℕ → ℕ → ℕ

@@ -9,9 +9,9 @@ use Rattle.integers.proofs.Lists.{length-tab}
 use Rattle.integers.specs.Lists.{any, oneIf}
 use lib.Dec.{eqb}
 use Rattle.partition.specs.KeySteps.{flags}
-use Rattle.partition.proofs.RankLaws.{marked-none, marked-more}
-use Rattle.partition.proofs.ranks.mark.Statement.{statement}
-use Rattle.partition.proofs.ranks.mark.Tie as tie
+use Rattle.partition.proofs.OrdinalLaws.{marked-none, marked-more}
+use Rattle.partition.proofs.ordinals.mark.Statement.{statement}
+use Rattle.partition.proofs.ordinals.mark.Tie as tie
 
 abbrev Inv-loop : tie.InvT-loop
 Inv-loop numbers count table₀ k₀ table k = (k ≤ count) × (table ≡ flags (take k numbers) (length table₀))
