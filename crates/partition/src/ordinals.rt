@@ -1,5 +1,5 @@
-// The ordinal of each number of a table: how many distinct smaller ones stand there. A flag for each
-// number that does, then a running count of the flags.
+// The ordinal of each number of a table: how many distinct smaller ones stand there. A flag for
+// each number that does, then a running count of the flags.
 use nest::LoopNest;
 use numbering::COMPONENTS;
 ghost use mathlib.Core.Path.{_≡_};
@@ -64,8 +64,8 @@ fn look_up(numbers: &mut [u32], count: usize, table: &[u16])
     }
 }
 
-// Each of `count` numbers below `range` becomes its ordinal, with a table for the flags; answers how
-// many distinct ones there are.
+// Each of `count` numbers below `range` becomes its ordinal, with a table for the flags; answers
+// how many distinct ones there are.
 fn ordinals_within(numbers: &mut [u32], count: usize, range: usize, table: &mut [u16]) -> usize
     requires { ⌜ Counted (now numbers) count range × (range ≤ length (now table)) × Cleared (now table) ⌝ }
     ensures { λ r. ⌜ r ≡ standing (take count (now (numbers .entry))) range ⌝ }
