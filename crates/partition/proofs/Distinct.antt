@@ -18,7 +18,7 @@ use Rattle.integers.proofs.Linear.{up, ints, sum, dif, part}
 use Rattle.integers.proofs.Order.{decide}
 use Rattle.integers.specs.Lists.{any, place, firsts, count, oneIf, tab}
 use Rattle.integers.proofs.Lists.{split, clash, any-first, any-past, true-T, T-true, place-below, place-passes, below-or-not}
-use Rattle.integers.proofs.ListFacts.{getD-mem, mem-map, any-mem, Fresh, firsts-fresh, firsts-cover, firsts-mem}
+use Rattle.integers.proofs.ListFacts.{getD-mem, mem-map, any-mem, Fresh, firsts-fresh, firsts-cover, firsts-mem, place-own}
 use Rattle.integers.proofs.Sums.{one-yes, one-no, count-cons, count-empty, count-each, count-nowhere, count-less, count-fewer, count-tab-more, count-none, count-most}
 use Rattle.integers.proofs.Tests.{signed}
 use Rattle.integers.specs.Vector.{eqZ}
@@ -103,6 +103,13 @@ module _ (xs : List ℤ) where
   there-same a =
       split (any (eqZ a) distinct) (λ t. t ∙ sym (any-mem (eqZ a) xs a (firsts-mem eqZ xs a (any-there a distinct t)) (eqZ-refl a)))
       (λ f. f ∙ sym (split (any (eqZ a) xs) (λ t. clash (any-mem (eqZ a) distinct a (value-there a (any-there a xs t)) (eqZ-refl a)) f) (λ n. n)))
+
+  -- each stands there once
+  pub distinct-place : (i k : ℕ) → i < length distinct → k < length distinct → getD distinct i (pos 0) ≡ getD distinct k (pos 0) → i ≡ k
+  distinct-place i k hi hk e =
+      let f : Fresh eqZ [] distinct = unfold firsts in firsts-fresh eqZ [] xs in
+      let x = getD distinct k (pos 0) in
+      sym (place-own eqZ (pos 0) [] distinct f x (true-T (eqZ-refl x)) i hi e) ∙ place-own eqZ (pos 0) [] distinct f x (true-T (eqZ-refl x)) k hk refl
 
   -- there are no more than values
   pub distinct-few : length distinct ≤ length xs
