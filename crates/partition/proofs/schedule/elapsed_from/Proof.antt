@@ -1,4 +1,4 @@
--- `elapsed_from` meets its contract. The loop's invariant: the first k steps stand in the table, and the greatest of them is known. Assumes nothing.
+-- `elapsed_from` meets its contract. The loop's invariant: the first k numbers less the least stand in the table, and the greatest of them is known. Assumes nothing.
 use borrow.Author.Needs.{needs}
 use mathlib.Core.Path.{_≡_, ap, _∙_}
 use mathlib.Core.List.{List, _++_}
@@ -12,7 +12,7 @@ use Rattle.partition.proofs.StepLaws.{Stepped, stepped-start, stepped-m
 use Rattle.partition.proofs.schedule.elapsed_from.Statement.{statement}
 use Rattle.partition.proofs.schedule.elapsed_from.Tie as tie
 
--- the step of iteration k
+-- number k less the least
 abbrev to : List ℕ → ℕ → ℕ → ℕ
 to steps₀ least k = getD steps₀ k 0 - least
 
