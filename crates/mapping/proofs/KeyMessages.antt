@@ -16,8 +16,7 @@ use Rattle.sources.specs.Keys.{sourceIn}
 use Rattle.sources.proofs.Cursors.{OfNest, keyed-length, keyed-source}
 use Rattle.mapping.specs.ByKeys.{elsewhereIn, messagesIn}
 use Rattle.mapping.specs.Mapping.{isMessage}
-use Rattle.integers.proofs.Sums.{one-most}
-use Rattle.integers.proofs.Sums.{count-none, count-tab-more}
+use Rattle.integers.proofs.Sums.{one-most, count-none, count-tab-more}
 use Rattle.mapping.proofs.Messages.{message-is}
 
 -- ---- one dependence after the other

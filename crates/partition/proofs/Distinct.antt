@@ -1,14 +1,14 @@
 -- The distinct values of a list of integers, and how many of them are below a number: it grows with the number, by 1 at each value and nowhere else, so every
 -- number below the count of distinct values is the ordinal of one of them. Assumes nothing.
 use mathlib.Core.Path.{_≡_, refl, sym, ap, subst, _∙_}
-use mathlib.Core.Bool.{Bool, true, false, not}
+use mathlib.Core.Bool.{true, false}
 use mathlib.Core.Logic.{_⊎_, inl, inr, ⊎-elim}
 use mathlib.Core.List.{List, [], _∷_, map, List·Memᴰ, List·Memᴰ·head, List·Memᴰ·tail}
 use Prim.Native.Nat.{ℕ, zero, suc, _+_, _<_, _≤_}
 use native.Mathlib.Numerals.{add-one}
 use native.Mathlib.Omega.{arith}
-use borrow.Author.Tests.{eqb-true, eqb-false}
-use lib.Dec.{T, eqb}
+use borrow.Author.Tests.{eqb-true, eqb-false, not-true}
+use lib.Dec.{eqb}
 use lib.IntN.{ℤ, pos, _+ℤ_, _-ℤ_}
 use lib.ListN.{length, getD}
 use lib.Signed.{_≤ℤ_, _<ℤ_, ltZ}
@@ -51,12 +51,8 @@ any-there a xs t =
 kept-nowhere : (kept ds : List ℤ) → Fresh eqZ kept ds → (a : ℤ) → List·Memᴰ a kept → any (eqZ a) ds ≡ false
 kept-nowhere kept [] f a m = unfold any in refl
 kept-nowhere kept (d ∷ ds) f a m =
-    split (eqZ a d) (λ t. clash (any-mem (eqZ d) kept a m (eqZ-same d a (sym (eqZ-true a d t)))) (no (any (eqZ d) kept) (f .0)))
+    split (eqZ a d) (λ t. clash (any-mem (eqZ d) kept a m (eqZ-same d a (sym (eqZ-true a d t)))) (not-true (any (eqZ d) kept) (T-true (f .0))))
     (λ e. any-past (eqZ a) d ds e ∙ kept-nowhere (d ∷ kept) ds (f .1) a (List·Memᴰ·tail m))
-  where
-    no : (b : Bool) → T (not b) → b ≡ false
-    no true t = absurd t
-    no false t = refl
 
 -- of distinct numbers, those below a + 1 are those below a and a itself
 count-next : (kept ds : List ℤ) → Fresh eqZ kept ds → (a b : ℤ) → b ≡ a +ℤ pos 1 → count (λ z. ltZ z b) ds ≡ count (λ z. ltZ z a) ds + oneIf (any (eqZ a) ds)

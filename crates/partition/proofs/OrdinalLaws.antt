@@ -1,6 +1,6 @@
 -- Flags for the numbers of a list, one number more at a time, and the running count of the flags. Assumes nothing.
 use mathlib.Core.Path.{_≡_, refl, sym, ap, _∙_}
-use mathlib.Core.Bool.{Bool, true, false, _||_}
+use mathlib.Core.Bool.{false, _||_, or-false}
 use mathlib.Core.List.{List, [], _∷_, _++_}
 use Prim.Native.Nat.{ℕ, _+_, _<_, _≤_}
 use native.Mathlib.Numerals.{add-one}
@@ -49,12 +49,8 @@ marked-more numbers table n k x h e l w =
         one-yes (any (eqb u) (take (k + 1) numbers)) (stands u ∙ or-right (any (eqb u) xs) (eqb u x) t)
         ∙ sym (ap (λ i. getD (set (flags xs n) x 1) i 0) (eqb-true u x t) ∙ getD-set-same (flags xs n) x 1 0 (omega (arith, l, length-tab f n))))
         (λ q.
-        ap oneIf (stands u ∙ ap (λ c. any (eqb u) xs || c) q ∙ or-none (any (eqb u) xs))
+        ap oneIf (stands u ∙ ap (λ c. any (eqb u) xs || c) q ∙ or-false (any (eqb u) xs))
         ∙ sym (getD-set-other (flags xs n) x u 1 0 (eqb-false u x q) ∙ getD-tab f n u 0 b))
-      where
-        or-none : (c : Bool) → (c || false) ≡ c
-        or-none true = refl
-        or-none false = refl
 
 -- ---- their running count
 
