@@ -1,6 +1,7 @@
 -- What the machine's `/` and `%` need and give at an `i64`, and the laws of division that rounds
 -- down. Assumes nothing.
 use mathlib.Core.Path.{_≡_, refl, sym, _∙_, ap, subst, subst₂}
+use mathlib.Core.Logic.{_⊎_, inl, inr, ⊎-elim}
 use Prim.Native.Nat.{ℕ, zero, suc, _+_, _*_, _-_, _/_, _%_, _≤_, _<_, zero-le, suc-le-suc}
 use native.Mathlib.Nat as NatL
 use native.Mathlib.Omega.{arith}
@@ -14,11 +15,11 @@ use Rattle.integers.proofs.Bounds.{Has, param, need-op, op-is}
 use Rattle.integers.proofs.Tests.{same}
 use Rattle.integers.proofs.Linear.{ints, sum, opp, sizes}
 use Rattle.integers.proofs.Machine.{reads}
-use Rattle.integers.proofs.Order.{*-cancel-<, ≤→diff, <→diff}
+use Rattle.integers.proofs.Order.{*-cancel-<, ≤→diff, <→diff, decide}
 use Rattle.integers.proofs.Certify.{≤-by, <-by}
 use Rattle.integers.proofs.Solver.{var, con, _⊕_, _⊖_, _⊗_}
 use mathlib.Core.List.{[], _∷_}
-use Rattle.integers.proofs.Ring.{distr, neg-*, natAbs-neg, natAbs-*}
+use Rattle.integers.proofs.Ring.{distr, *ℤ-idl, neg-*, natAbs-neg, natAbs-*}
 use Rattle.integers.specs.Division.{floorDiv, Floor, leftOver, Divides}
 
 -- ---- the machine's division by a positive number
@@ -125,6 +126,24 @@ floor-shift a r k h = sym (floor-is (a +ℤ k *ℤ r) r (floorDiv a r +ℤ k) h 
 
     high : (a +ℤ k *ℤ r) <ℤ ((floorDiv a r +ℤ k +ℤ pos 1) *ℤ r)
     high = <-by (a ∷ r ∷ k ∷ q ∷ []) (var 0 ⊕ var 2 ⊗ var 1) ((var 3 ⊕ var 2 ⊕ con (pos 1)) ⊗ var 1) ((var 3 ⊕ con (pos 1)) ⊗ var 1 ⊖ var 0) (<→diff a ((q +ℤ pos 1) *ℤ r) (f .high)) tt
+
+-- a number from 0 to r more raises the quotient by 0 or 1
+pub floor-step : (a w r : ℤ) → pos 1 ≤ℤ r → pos 0 ≤ℤ w → w ≤ℤ r → (floorDiv (a +ℤ w) r ≡ floorDiv a r) ⊎ (floorDiv (a +ℤ w) r ≡ floorDiv a r +ℤ pos 1)
+floor-step a w r h l u = ⊎-elim above below (decide ((q +ℤ pos 1) *ℤ r) (a +ℤ w))
+  where
+    q : ℤ
+    q = floorDiv a r
+
+    f : Floor a r (floorDiv a r)
+    f = floorDiv-is a r h
+
+    above : ((q +ℤ pos 1) *ℤ r) ≤ℤ (a +ℤ w) → (floorDiv (a +ℤ w) r ≡ q) ⊎ (floorDiv (a +ℤ w) r ≡ q +ℤ pos 1)
+    above m =
+        let d = distr (q +ℤ pos 1) (pos 1) r in
+        inr (sym (floor-is (a +ℤ w) r (q +ℤ pos 1) h (record { low = m; high = subst (λ z. (a +ℤ w) <ℤ z) (sym (d ∙ ap (λ z. (q +ℤ pos 1) *ℤ r +ℤ z) (*ℤ-idl r))) (omega (ints, f .high, sum a w, sum ((q +ℤ pos 1) *ℤ r) r)) })))
+
+    below : (a +ℤ w) <ℤ ((q +ℤ pos 1) *ℤ r) → (floorDiv (a +ℤ w) r ≡ q) ⊎ (floorDiv (a +ℤ w) r ≡ q +ℤ pos 1)
+    below m = inl (sym (floor-is (a +ℤ w) r q h (record { low = omega (ints, f .low, sum a w); high = m })))
 
 pub leftOver-low : (a r : ℤ) → pos 1 ≤ℤ r → pos 0 ≤ℤ leftOver a r
 unfolding leftOver

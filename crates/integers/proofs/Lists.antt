@@ -150,6 +150,20 @@ module _ {A : Type 0} where
       go false true true d = refl
       go false true false d = refl
 
+  -- a list in which no two elements are the same
+  pub repeats-cons : (same : A → A → Bool) (x : A) (xs : List A) → repeats same (x ∷ xs) ≡ false → (any (same x) xs ≡ false) × (repeats same xs ≡ false)
+  unfolding repeats
+  repeats-cons same x xs d = go (any (same x) xs) d
+    where
+      go : (b : Bool) → elim b as (λ _. Bool) [ true ↦ true | false ↦ repeats same xs ] ≡ false → (b ≡ false) × (repeats same xs ≡ false)
+      go true e = clash refl e
+      go false e = (refl, e)
+
+  -- and one more in front
+  pub repeats-new : (same : A → A → Bool) (x : A) (xs : List A) → any (same x) xs ≡ false → repeats same xs ≡ false → repeats same (x ∷ xs) ≡ false
+  unfolding repeats
+  repeats-new same x xs e d = ap (λ b. elim b as (λ _. Bool) [ true ↦ true | false ↦ repeats same xs ]) e ∙ d
+
   pub repeats-tab-more : (same : A → A → Bool) (f : ℕ → A) (n : ℕ) → repeats same (tab f n) ≡ false → any (λ x. same x (f n)) (tab f n) ≡ false → repeats same (tab f (n + 1)) ≡ false
   repeats-tab-more same f n h e =
       ap (repeats same) (tab-more f n) ∙ repeats-snoc same (tab f n) (f n) ∙ ap (λ b. b || any (λ x. same x (f n)) (tab f n)) h ∙ e

@@ -1,19 +1,19 @@
 -- Counts and sums: how many elements of a list pass a test, and the sum of a table's numbers.
 -- Assumes nothing.
-use mathlib.Core.Path.{_≡_, refl, sym, ap, _∙_}
-use mathlib.Core.Bool.{Bool, true, false}
+use mathlib.Core.Path.{_≡_, refl, sym, ap, _∙_, subst}
+use mathlib.Core.Bool.{Bool, true, false, true≢false}
 use mathlib.Core.Logic.{_⊎_, inl, inr, ⊎-elim}
 use mathlib.Core.List.{List, [], _∷_, _++_, List·Memᴰ, List·Memᴰ·head, List·Memᴰ·tail}
 use Prim.Native.Nat.{ℕ, zero, suc, _+_, _*_, _-_, _<_, _≤_, min}
 use native.Mathlib.Nat.{suc-mul}
 use native.Mathlib.Numerals.{add-one}
 use native.Mathlib.Omega.{arith}
-use borrow.Author.Tests.{lt-ltb, le-ltb, eqb-true, eqb-false}
+use borrow.Author.Tests.{lt-ltb, le-ltb, eq-eqb, eqb-true, eqb-false}
 use lib.Dec.{ltb, eqb}
 use lib.ListN.{length}
-use Rattle.integers.specs.Lists.{any, tab, count, oneIf, total}
-use Rattle.integers.proofs.Lists.{tab-more, count-append, count-yes, count-no, split, below-or-not, true-T, T-true}
-use Rattle.integers.proofs.ListFacts.{any-cons}
+use Rattle.integers.specs.Lists.{any, tab, count, repeats, oneIf, total}
+use Rattle.integers.proofs.Lists.{tab-more, length-tab, getD-tab, any-append, any-first, any-one, or-true, repeats-cons, count-append, count-yes, count-no, split, below-or-not, true-T, T-true}
+use Rattle.integers.proofs.ListFacts.{any-cons, any-later, getD-mem}
 
 -- ---- 1 where a test passes
 pub one-yes : (b : Bool) → b ≡ true → oneIf b ≡ 1
@@ -64,6 +64,16 @@ module _ {A : Type 0} where
       split (p x) (λ t. ⊎-elim (λ e. omega (arith, one-most (p x), one-yes (q x) e)) (λ e. omega (arith, one-most (p x), one-yes (r x) e)) (h x t)) (λ f. omega (arith, one-no (p x) f)) in
       omega (arith, count-cons p x xs, count-cons q x xs, count-cons r x xs, one, count-either p q r h xs)
 
+  -- no element passes both p and q, and what passes one of them passes r
+  pub count-apart : (p q r : A → Bool) → ((x : A) → p x ≡ true → (q x ≡ false) × (r x ≡ true)) → ((x : A) → q x ≡ true → r x ≡ true)
+      → (xs : List A) → count p xs + count q xs ≤ count r xs
+  count-apart p q r hp hq [] = omega (arith, count-empty p, count-empty q)
+  count-apart p q r hp hq (x ∷ xs) =
+      let one : oneIf (p x) + oneIf (q x) ≤ oneIf (r x) =
+      split (p x) (λ t. omega (arith, one-most (p x), one-no (q x) (hp x t .0), one-yes (r x) (hp x t .1)))
+      (λ f. split (q x) (λ t. omega (arith, one-no (p x) f, one-most (q x), one-yes (r x) (hq x t))) (λ g. omega (arith, one-no (p x) f, one-no (q x) g))) in
+      omega (arith, count-cons p x xs, count-cons q x xs, count-cons r x xs, one, count-apart p q r hp hq xs)
+
   module _ (p q : A → Bool) (h : (x : A) → p x ≡ true → q x ≡ true) where
     one-less : (x : A) → oneIf (p x) ≤ oneIf (q x)
     one-less x = split (p x) (λ t. omega (arith, one-most (p x), one-yes (q x) (h x t))) (λ f. omega (arith, one-no (p x) f))
@@ -107,6 +117,19 @@ module _ {A : Type 0} (p : A → Bool) (f : ℕ → A) where
       let h = rw add-one at (count-tab-more e) in
       split (eqb e q) (λ t. omega (arith, h, count-at q is e, one-yes (p (f e)) (is e ∙ t), eqb-true e q t)) (λ n. omega (arith, h, count-at q is e, one-no (p (f e)) (is e ∙ n), eqb-false e q n))
 
+-- how many numbers below n pass
+module _ (p : ℕ → Bool) (n : ℕ) where
+  -- only x may
+  pub count-one : (x : ℕ) → ((k : ℕ) → p k ≡ true → k ≡ x) → count p (tab (λ k. k) n) ≤ 1
+  count-one x h =
+      omega (arith, count-less p (λ k. eqb k x) (λ k t. eq-eqb k x (h k t)) (tab (λ k. k) n), count-at (λ k. eqb k x) (λ k. k) x (λ k. refl) n)
+
+  -- only x and y may
+  pub count-two : (x y : ℕ) → ((k : ℕ) → p k ≡ true → (k ≡ x) ⊎ (k ≡ y)) → count p (tab (λ k. k) n) ≤ 2
+  count-two x y h =
+      let a = count-either p (λ k. eqb k x) (λ k. eqb k y) (λ k t. ⊎-elim (λ e. inl (eq-eqb k x e)) (λ e. inr (eq-eqb k y e)) (h k t)) (tab (λ k. k) n) in
+      omega (arith, a, count-at (λ k. eqb k x) (λ k. k) x (λ k. refl) n, count-at (λ k. eqb k y) (λ k. k) y (λ k. refl) n)
+
 -- the numbers below n that stand in a list are no more than the list has
 pub count-standing : (xs : List ℕ) (n : ℕ) → count (λ u. any (eqb u) xs) (tab (λ u. u) n) ≤ length xs
 count-standing [] n = omega (arith, count-nowhere (λ u. any (eqb u) []) (tab (λ u. u) n) (λ u m. unfold any in refl))
@@ -140,3 +163,43 @@ total-most f c (suc n) h = let e = ap (λ m. total (tab f m)) (sym (add-one n)) 
 pub count-total : (t : ℕ → Bool) (n : ℕ) → count t (tab (λ k. k) n) ≡ total (tab (λ k. oneIf (t k)) n)
 count-total t zero = count-none t (λ k. k) ∙ sym (total-none (λ k. oneIf (t k)))
 count-total t (suc n) = let a = rw add-one at (count-tab-more t (λ k. k) n) in let b = rw add-one at (total-tab-more (λ k. oneIf (t k)) n) in omega (arith, a, b, count-total t n)
+
+-- what passes one of m tests: no more than pass each of them, added up
+pub count-some : {A : Type 0} (p : ℕ → A → Bool) (m : ℕ) (xs : List A) → count (λ x. any (λ i. p i x) (tab (λ i. i) m)) xs ≤ total (tab (λ i. count (p i) xs) m)
+count-some p zero xs = omega (arith, count-nowhere (λ x. any (λ i. p i x) (tab (λ i. i) 0)) xs (λ x m. unfold any tab in refl))
+count-some {A} p (suc m) xs =
+    let a = count-either (λ x. any (λ i. p i x) (tab (λ i. i) (suc m))) (λ x. any (λ i. p i x) (tab (λ i. i) m)) (p m) last xs in
+    let b = rw add-one at (total-tab-more (λ i. count (p i) xs) m) in
+    omega (arith, a, b, count-some p m xs)
+  where
+    last : (x : A) → any (λ i. p i x) (tab (λ i. i) (suc m)) ≡ true → (any (λ i. p i x) (tab (λ i. i) m) ≡ true) ⊎ (p m x ≡ true)
+    last x t = unfold tab in
+        let ms = tab (λ i. i) m in
+        ⊎-elim inl (λ e. inr (sym (any-one (λ i. p i x) m) ∙ e)) (or-true (any (λ i. p i x) ms) (any (λ i. p i x) (m ∷ [])) (sym (any-append (λ i. p i x) ms (m ∷ [])) ∙ t))
+
+-- entries of at most c, each with 1 more where a test passes
+pub total-with : (f : ℕ → ℕ) (q : ℕ → Bool) (c m : ℕ) → ((i : ℕ) → i < m → f i + oneIf (q i) ≤ c) → total (tab f m) + count q (tab (λ i. i) m) ≤ m * c
+total-with f q c zero h = omega (arith, total-none f, count-none q (λ i. i))
+total-with f q c (suc m) h =
+    let a = rw add-one at (total-tab-more f m) in
+    let b = rw add-one at (count-tab-more q (λ i. i) m) in
+    omega (arith, a, b, total-with f q c m (λ i l. h i (omega arith)), h m (omega arith), suc-mul m c)
+
+-- if each of some different elements is f i for an i below n, at least so many i below n have f i among them
+pub count-listed : {A : Type 0} (same : A → A → Bool) → ((x : A) → same x x ≡ true) → ((x y : A) → same x y ≡ true → x ≡ y) → (f : ℕ → A) (n : ℕ) (xs : List A) → repeats same xs ≡ false
+    → ((x : A) → List·Memᴰ x xs → (i : ℕ) × (i < n) × (f i ≡ x)) → length xs ≤ count (λ i. any (same (f i)) xs) (tab (λ i. i) n)
+count-listed same own equal f n [] d h = omega arith
+count-listed {A} same own equal f n (x ∷ xs) d h =
+    let w = h x (List·Memᴰ·head refl) in
+    let m : List·Memᴰ (w .0) (tab (λ i. i) n) = subst (λ (k : ℕ). List·Memᴰ k (tab (λ i. i) n)) (getD-tab (λ i. i) n (w .0) 0 (w .1)) (getD-mem (tab (λ i. i) n) (w .0) 0 (omega (arith, w .1, length-tab (λ (i : ℕ). i) n))) in
+    let is : same (f (w .0)) x ≡ true = ap (λ y. same y x) (w .2) ∙ own x in
+    let one = count-fewer (λ i. false) (λ i. same (f i) x) (λ i e. absurd (true≢false (sym e))) (tab (λ i. i) n) (w .0) m refl is in
+    let rest = count-listed same own equal f n xs (alone .1) (λ y l. h y (List·Memᴰ·tail l)) in
+    let sum = count-apart (λ i. same (f i) x) (λ i. any (same (f i)) xs) (λ i. any (same (f i)) (x ∷ xs))
+    (λ i e. (ap (λ y. any (same y) xs) (equal (f i) x e) ∙ alone .0, any-first (same (f i)) x xs e))
+    (λ i e. T-true (any-later (same (f i)) x xs (true-T e))) (tab (λ i. i) n) in
+    omega (arith, one, rest, sum)
+  where
+    -- the first is none of the others, and they differ
+    alone : (any (same x) xs ≡ false) × (repeats same xs ≡ false)
+    alone = repeats-cons same x xs d
