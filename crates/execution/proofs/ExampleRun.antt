@@ -14,7 +14,8 @@ use Rattle.nest.specs.Nest.{toℕ, part, limitsOf, timeOf, dependencesOf, weigh
 use Rattle.nest.specs.Points.{extent, indices, points, pointsOf, pointCount}
 use Rattle.nest.specs.Refusals.{number, outside, crossed, outOfSpan, backward, against, holds, firstMet, refusal}
 use Rattle.sequential.specs.Sequential.{Rule}
-use Rattle.planner.specs.Examples.{vector, listed}
+use Rattle.partition.specs.Examples.{vector}
+use Rattle.planner.specs.Examples.{listed}
 use Rattle.execution.specs.Rules.{every, Move}
 use Rattle.execution.specs.Machine.{layoutOf}
 use Rattle.execution.specs.Claim.{Planned, Fresh, Outcome}

@@ -24,7 +24,8 @@ use Rattle.mapping.specs.Mapping.{inOrder, direction, undealt, takesBit, withBi
 use Rattle.mapping.specs.Mapping.{dealBit, dealBits, dealt, gray, partOf, joined, processor, directionsOf, processorsOf}
 use Rattle.mapping.specs.Mapping.{crosses, isMessage}
 use Rattle.sequential.specs.Sequential.{sourceValue, valueOf, weightedSum, ruleOf}
-use Rattle.planner.specs.Examples.{vector, listed}
+use Rattle.partition.specs.Examples.{vector}
+use Rattle.planner.specs.Examples.{listed}
 use Rattle.execution.specs.Rules.{every, better, least, Move, compute, deliver, Layout, taking, delivering}
 use Rattle.execution.specs.Rules.{effect}
 use Rattle.execution.specs.Machine.{layoutOf, referenceAnswers, allowedCount}

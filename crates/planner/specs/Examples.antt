@@ -31,6 +31,7 @@ use Rattle.grouping.specs.Projection.{projection, divides, makesWhole, multipli
 use Rattle.integers.specs.Extremes.{leastZ, greatestZ}
 use Rattle.partition.specs.Partition.{distinctProducts, step, stepNumber, stepsOf, stepCount, frameOf, groupsOf}
 use Rattle.partition.specs.Partition.{blocksOf, blockCount}
+use Rattle.partition.specs.Examples.{vector, nestWith, L1, L2}
 use Rattle.grouping.specs.Grouping.{pivot, clear, remainder, mayGroup, groupingVector, extend, chosenVectors}
 use Rattle.grouping.specs.Grouping.{chosenCount, latest, coefficients, left, isCombination, frame, directions}
 use Rattle.grouping.specs.Grouping.{difference, sameClass, coordinates, seeds, eqG, quotients, classNumber, group}
@@ -109,24 +110,6 @@ says s (printed text list) = eqN (textOf s) text && eqN (listing text) list
 pub record Case : Type 0 where
   pub nest : LoopNest
   pub facts : List Fact
-
-unfoldable pub vector : List ℕ → Vector
-vector = map pos
-
--- 0..u for each upper limit u; boundary value and weights 1
-unfoldable pub nestWith : List ℕ → Vector → List Vector → ℕ → LoopNest
-nestWith us P ds c = nestOf (pos c) (map (λ u. record { lower = pos 0; upper = pos u }) us) P ds (pos 1)
-    (map (λ d. pos 1) ds)
-
--- 000's loop L1
-unfoldable pub L1 : ℕ → LoopNest
-L1 c = nestWith (3 ∷ 3 ∷ []) (vector (1 ∷ 1 ∷ []))
-    (vector (0 ∷ 1 ∷ []) ∷ vector (1 ∷ 1 ∷ []) ∷ vector (1 ∷ 0 ∷ []) ∷ []) c
-
--- 000's loop L2, whose second loop goes from 0 to u
-unfoldable pub L2 : ℕ → LoopNest
-L2 u = nestWith (3 ∷ u ∷ 3 ∷ []) (vector (1 ∷ 1 ∷ 1 ∷ []))
-    (vector (0 ∷ 1 ∷ 0 ∷ []) ∷ vector (1 ∷ 0 ∷ 0 ∷ []) ∷ vector (0 ∷ 0 ∷ 1 ∷ []) ∷ []) 0
 
 -- one dependence, in two loops of u + 1 and v + 1 indices
 unfoldable pub two : ℕ → ℕ → Vector → Vector → LoopNest

@@ -28,7 +28,10 @@ use Rattle.rows.proofs.PartLaws.{empty-iff}
 use Rattle.rows.proofs.Answers.{row-answered}
 use Rattle.sequential.specs.Sequential.{ruleOf, valuesOf, fillRefusal, fillOrder, filled, Fills}
 use Rattle.sequential.proofs.Answers.{fill-answered}
+use Rattle.partition.specs.declared.receivers.Receivers.{Receivers}
 use Rattle.partition.specs.Partition.{stepsOf, blocksOf}
+use Rattle.partition.specs.Sending.{boundOf, Bounds}
+use Rattle.partition.proofs.Theorem2.{most-refused}
 use Rattle.mapping.specs.Mapping.{processorsOf}
 use Rattle.planner.specs.declared.Planning.{Planning}
 use Rattle.planner.specs.Plan.{planOrder, planAnswer, Tables, tablesRefusal, Plans}
@@ -81,6 +84,16 @@ inspect-one s = record {
   no-other = λ r e. e;
   number-listed = listed (nestOrder s) nestNumbers (refusal s) (nest-numbers s) (nest-answered s);
   refused = inspect-refused s;
+}
+
+-- `most_receivers`
+receivers-one : (s : LoopNest) → OneOutcome Receivers (Bounds s) (λ r. r .refusal) nestNumbers (λ r. r .most ≡ 0)
+receivers-one s = record {
+  outcome = record { refusal = refusal s; most = boundOf s };
+  promised = refl;
+  no-other = λ r e. e;
+  number-listed = listed (nestOrder s) nestNumbers (refusal s) (nest-numbers s) (nest-answered s);
+  refused = λ h. most-refused s h;
 }
 
 -- `read`
@@ -264,6 +277,7 @@ entries-one : EveryEntry OneOutcome
 entries-one = record {
   check = check-one;
   inspect = inspect-one;
+  most-receivers = receivers-one;
   read = read-one;
   write = λ s old. puts-one (refusal s) (textOf s) old bufferNumbers
       (listed (writeOrder s (length old)) bufferNumbers (writeRefusal (refusal s) (textOf s) (length old)) (call-numbers s ((14, length old < length (textOf s)) ∷ [])) (write-answered s (length old)));

@@ -2,19 +2,23 @@
 -- Assumes nothing.
 use mathlib.Core.Path.{_≡_, refl, sym, ap, ap₂, subst, _∙_}
 use mathlib.Core.List.{List, _++_}
-use Prim.Native.Nat.{ℕ, _^_, _<_}
+use Prim.Native.Nat.{ℕ, _+_, _*_, _^_, _<_, _≤_}
 use native.Mathlib.Omega.{arith}
 use lib.ListN.{length, getD, take, drop, List·getD-append}
 use lib.Seq.{take-append-le, take-all}
 use Rattle.integers.proofs.ListFacts.{getD-map}
 use Rattle.nest.specs.declared.LoopNest.{LoopNest}
 use Rattle.nest.specs.Points.{pointsOf}
-use Rattle.nest.specs.Nest.{toℕ}
+use Rattle.nest.specs.Nest.{toℕ, countOf}
 use Rattle.nest.specs.declared.Inspection.{Inspection}
 use Rattle.nest.specs.Refusals.{refusal, tableAfter, Order, Answered, nestOrder}
 use Rattle.nest.proofs.Answers.{answered-unique, nest-answered}
 use Rattle.nest.proofs.Entries.{made-table}
-use Rattle.partition.specs.Partition.{stepsOf, stepCount, groupsOf, blocksOf, blockCount, noGroup}
+use Rattle.partition.specs.declared.receivers.Receivers.{Receivers}
+use Rattle.partition.specs.Partition.{stepsOf, stepCount, groupsOf, blocksOf, blockCount, chosenOf, noGroup}
+use Rattle.partition.specs.Sending.{receiverCount}
+use Rattle.partition.proofs.Sends.{receivers-same}
+use Rattle.partition.proofs.Theorem2.{theorem-2, most-is, most-accepted}
 use Rattle.partition.proofs.Nests.{steps-length, groups-length}
 use Rattle.partition.proofs.Theorems.{step-at as step-entry, step-order, step-iff, step-below, step-used, step-few, blocks-length, block-below, block-used, block-order, block-iff, one-iteration-a-step, later-step}
 use Rattle.mapping.specs.Mapping.{processorsOf, processorCount, messageCount, directionsOf, processor}
@@ -97,6 +101,10 @@ module _ (s : LoopNest) (old : Tables) (p : Planning) (t : Tables) (P : Plans s 
       let g = block-iff s ok j k hj hk .0 (sym (block-at j hj) ∙ e ∙ block-at k hk) in
       processor-at j hj ∙ grouped j hj ∙ ap (processor (directionsOf s)) g ∙ sym (grouped k hk) ∙ sym (processor-at k hk)
 
+  -- a block's receivers, in the table that was written
+  receivers : (b : ℕ) → b < p .blocks → receiverCount s (t .blocks) (p .blocks) b + chosenOf s ≤ 2 * countOf s
+  receivers b h = omega (arith, receivers-same s (t .blocks) (blocksOf s) block-at (p .blocks) b, theorem-2 s ok (p .blocks) b)
+
   planned : IsPlan s old p t
   planned = record {
     steps = table (stepsOf s) (old .steps) (t .steps) (steps-length s) (P .1 .0);
@@ -128,6 +136,8 @@ module _ (s : LoopNest) (old : Tables) (p : Planning) (t : Tables) (P : Plans s 
         (λ e. i .0 (sym (block-at j hj) ∙ e ∙ block-at k hk), λ e. block-at j hj ∙ i .1 e ∙ sym (block-at k hk));
     one-a-step = λ j k hj hk b e. one-iteration-a-step s ok j k hj hk (sym (block-at j hj) ∙ b ∙ block-at k hk) (sym (step-at j hj) ∙ e ∙ step-at k hk);
     later-step = λ i hi j k hj hk e. omega (arith, step-at j hj, step-at k hk, later-step s ok i hi j k hj hk e);
+    receivers = receivers;
+    most = λ r e b h. omega (arith, receivers b h, most-is s ok, ap (λ (x : Receivers). x .most) e, most-accepted s ok);
     one-processor = one-processor;
     processor-below = λ k h. subst (λ n. n < 2 ^ toℕ (s .cube)) (sym (processor-at k h)) (processors-below s k h);
     processor-count = counted .3;
@@ -167,6 +177,7 @@ conditions : Conditions
 conditions = record {
   check = λ s r e. exactly (nestOrder s) r (refusal s) e (nest-answered s);
   inspect = λ s r e. exactly (nestOrder s) (r .refusal) (refusal s) (ap (λ (x : Inspection). x .refusal) e) (nest-answered s);
+  most-receivers = λ s r e. exactly (nestOrder s) (r .refusal) (refusal s) (ap (λ (x : Receivers). x .refusal) e) (nest-answered s);
   read = λ text r e. exactly (readOrder text) (r .refusal) (readRefusal text) (ap (λ (x : Reading). x .refusal) e) (read-answered text);
   write = λ s old r new e.
       exactly (writeOrder s (length old)) (r .refusal) (writeRefusal (refusal s) (textOf s) (length old)) (ap (λ (x : Writing). x .refusal) (e .0)) (write-answered s (length old));

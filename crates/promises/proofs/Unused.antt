@@ -39,6 +39,7 @@ twelve-unused =
     record {
       check = λ s. never _ (one .check s) refl;
       inspect = λ s. never _ (one .inspect s) refl;
+      most-receivers = λ s. never _ (one .most-receivers s) refl;
       read = λ text. never _ (one .read text) refl;
       write = λ s old. never _ (one .write s old) refl;
       locate = λ s entries i. never _ (one .locate s entries i) refl;

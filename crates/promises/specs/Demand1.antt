@@ -18,6 +18,8 @@ use Rattle.nest_text.specs.Text.{Reads, Writes}
 use Rattle.rows.specs.declared.Span.{Span}
 use Rattle.rows.specs.Rows.{Locates, Cuts}
 use Rattle.sequential.specs.Sequential.{Fills}
+use Rattle.partition.specs.declared.receivers.Receivers.{Receivers}
+use Rattle.partition.specs.Sending.{Bounds}
 use Rattle.planner.specs.declared.Planning.{Planning}
 use Rattle.planner.specs.Plan.{Tables, Plans}
 use Rattle.planner.specs.Listing.{Lists}
@@ -82,6 +84,7 @@ pub record NoCounts (p : Planning) : Type 0 where
 pub record EveryEntry (Says : (A : Type 0) → (A → Type 0) → (A → ℕ) → List ℕ → (A → Type 0) → Type 0) : Type 0 where
   pub check : (s : LoopNest) → Says ℕ (Checks s) (λ r. r) nestNumbers (λ r. Unit {0})
   pub inspect : (s : LoopNest) → Says Inspection (Inspects s) (λ r. r .refusal) nestNumbers (λ r. r .iterations ≡ 0)
+  pub most-receivers : (s : LoopNest) → Says Receivers (Bounds s) (λ r. r .refusal) nestNumbers (λ r. r .most ≡ 0)
   pub read : (text : Bytes) → Says Reading (Reads text) (λ r. r .refusal) textNumbers (λ r. r .nest ≡ emptyNest)
   pub write : (s : LoopNest) (old : Bytes)
       → Says (Writing × Bytes) (λ o. Writes s old (o .0) (o .1)) (λ o. o .0 .refusal) bufferNumbers (NoBytes old)

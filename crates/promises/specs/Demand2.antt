@@ -1,13 +1,14 @@
 -- Demand 2 (document 00): an accepted nest's steps, blocks, processors, counts and values are those
 -- of the published projection, grouping and Gray numbering, with the free choices fixed in document
 -- 01 and the steps as document 02 numbers them (U2); each iteration is in one block, no two
--- iterations of a block are at one step, every dependence leads to a later step. A refusal comes
--- under its stated condition and no other. A nest read and written is the same nest, as text and as
--- numbers. It is said of what calls of the entries answer and leave. Assumes nothing.
+-- iterations of a block are at one step, every dependence leads to a later step, a block sends to at
+-- most 2m - β others (document 02, U3). A refusal comes under its stated condition and no other. A
+-- nest read and written is the same nest, as text and as numbers. It is said of what calls of the
+-- entries answer and leave. Assumes nothing.
 use mathlib.Core.Path.{_≡_}
 use mathlib.Core.List.{List, _++_}
 use mathlib.Core.Logic.{_↔_}
-use Prim.Native.Nat.{ℕ, _^_, _<_, _≤_}
+use Prim.Native.Nat.{ℕ, _+_, _*_, _^_, _<_, _≤_}
 use lib.IntN.{ℤ}
 use lib.ListN
 use lib.ListN.{getD, take, drop}
@@ -26,7 +27,9 @@ use Rattle.nest_text.specs.Text.{writeOrder, Reads, Writes}
 use Rattle.nest_text.specs.Form.{readOrder}
 use Rattle.rows.specs.declared.Span.{Span}
 use Rattle.rows.specs.Rows.{rowOrder, Locates, Cuts}
-use Rattle.partition.specs.Partition.{step, stepNumber, stepsOf, blocksOf, groupAt}
+use Rattle.partition.specs.declared.receivers.Receivers.{Receivers}
+use Rattle.partition.specs.Partition.{step, stepNumber, stepsOf, blocksOf, chosenOf, groupAt}
+use Rattle.partition.specs.Sending.{receiverCount, Bounds}
 use Rattle.mapping.specs.Mapping.{processorsOf, processorCount, isMessage, pairs}
 use Rattle.sequential.specs.Sequential.{valueOf, ruleOf, valuesOf, fillOrder, Fills}
 use Rattle.planner.specs.declared.Planning.{Planning}
@@ -93,6 +96,11 @@ pub record IsPlan (s : LoopNest) (old : Tables) (p : Planning) (t : Tables) : Ty
   -- every dependence leads to a later step
   pub later-step : (i : ℕ) → i < countOf s → (j k : ℕ) → Iteration s j → Iteration s k
       → point s j ≡ source (point s k) (dependence s i) → at (t .steps) j < at (t .steps) k
+  -- a block sends to at most 2m - β other blocks, of which each is counted once (document 02, U3)
+  pub receivers : (b : ℕ) → b < p .blocks → receiverCount s (t .blocks) (p .blocks) b + chosenOf s ≤ 2 * countOf s
+  -- and to no more than `most_receivers` answers, which is asked for the nest alone
+  pub most : (r : Receivers) → Bounds s r → (b : ℕ) → b < p .blocks
+      → receiverCount s (t .blocks) (p .blocks) b ≤ r .most
   -- a block is on one processor, and a processor is one of the machine's
   pub one-processor : (j k : ℕ) → Iteration s j → Iteration s k
       → at (t .blocks) j ≡ at (t .blocks) k → at (t .processors) j ≡ at (t .processors) k
@@ -132,6 +140,7 @@ tablesOrder s t =
 pub record Conditions : Type 0 where
   pub check : (s : LoopNest) (r : ℕ) → Checks s r → Exactly (nestOrder s) r
   pub inspect : (s : LoopNest) (r : Inspection) → Inspects s r → Exactly (nestOrder s) (r .refusal)
+  pub most-receivers : (s : LoopNest) (r : Receivers) → Bounds s r → Exactly (nestOrder s) (r .refusal)
   pub read : (text : Bytes) (r : Reading) → Reads text r → Exactly (readOrder text) (r .refusal)
   pub write : (s : LoopNest) (old : Bytes) (r : Writing) (new : Bytes) → Writes s old r new
       → Exactly (writeOrder s (lib.ListN.length old)) (r .refusal)

@@ -16,6 +16,7 @@ ghost use Rattle.nest.specs.Refusals.{Checks, Inspects};
 ghost use Rattle.nest_text.specs.Text.{Writes};
 ghost use Rattle.rows.specs.Rows.{Locates};
 ghost use Rattle.sequential.specs.Sequential.{Fills};
+ghost use Rattle.partition.specs.Sending.{Bounds};
 ghost use Rattle.planner.specs.Plan.{tablesIn, Plans};
 ghost use Rattle.planner.specs.Listing.{Lists};
 ghost use Rattle.execution.specs.Entry.{layoutIn, stateIn};
@@ -40,6 +41,18 @@ pub extern "C" fn rowlock_inspect(numbers: &[i64; NUMBERS], iterations: &mut usi
 {
     let known = nest::inspect(nest_in(numbers));
     *iterations = known.iterations;
+    known.refusal
+}
+
+// To how many other blocks a block may send, before the nest is planned: 2m - β, and no block of the
+// plan sends to more; or the number of the first refusal, 2 to 13, with 0.
+#[no_mangle]
+pub extern "C" fn rowlock_most_receivers(numbers: &[i64; NUMBERS], most: &mut usize) -> u8
+    ensures { λ r. ⌜ Bounds (nestIn (now (numbers .entry)))
+        (record { refusal = r; most = now (most .exit) }) ⌝ }
+{
+    let known = partition::most_receivers(nest_in(numbers));
+    *most = known.most;
     known.refusal
 }
 
