@@ -139,6 +139,13 @@ static void try_check(const struct rowlock_nest *nest, uint8_t refusal) {
     CHECK(*iterations == (refusal == ROWLOCK_DONE ? ITERATIONS : 0));
 }
 
+/* Of the two dependences one is chosen, since their projections are opposite: 2 * 2 - 1 = 3. */
+static void try_most_receivers(const struct rowlock_nest *nest, uint8_t refusal) {
+    size_t *most = lend(sizeof *most);
+    CHECK(rowlock_most_receivers(nest, most) == refusal);
+    CHECK(*most == (refusal == ROWLOCK_DONE ? 3 : 0));
+}
+
 static void try_write(const struct rowlock_nest *nest, uint8_t refusal) {
     for (size_t room = 0; room < sizeof text + 3; room++) {
         uint8_t answer = owed(refusal, room >= sizeof text - 1), *buffer = lend(room);
@@ -225,6 +232,7 @@ static void try_nest(const struct damage *damage) {
     struct rowlock_nest numbers = damaged(damage);
     const struct rowlock_nest *nest = lend_copy(&numbers, sizeof numbers);
     try_check(nest, damage->refusal);
+    try_most_receivers(nest, damage->refusal);
     try_write(nest, damage->refusal);
     try_locate(nest, damage->refusal);
     try_fill(nest, damage->refusal);
@@ -233,6 +241,26 @@ static void try_nest(const struct damage *damage) {
     static const size_t kinds[] = {ROWLOCK_COMPUTE, 0, 3, 256, SIZE_MAX};
     for (size_t k = 0; k < 5 * 6; k++)
         try_move(nest, damage->refusal, kinds[k / 6], k % 6);
+}
+
+/* Nests of other bounds: the projection of (1,0) along (1,0) is zero, and none is chosen; that of
+ * (0,1) along (1,1) is not; along (1,1,1) two of three unit vectors are chosen. */
+static void try_bounds(void) {
+    static const struct {
+        struct rowlock_nest nest;
+        size_t most;
+    } nests[] = {
+        {{.depth = 2, .count = 1, .time = {1, 0}, .dependences = {1, 0}}, 2},
+        {{.depth = 2, .count = 1, .time = {1, 1}, .dependences = {0, 1}}, 1},
+        {{.depth = 3, .count = 3, .time = {1, 1, 1}, .dependences = {0, 1, 0, 1, 0, 0, 0, 0, 1}},
+         4},
+    };
+    for (size_t k = 0; k < sizeof nests / sizeof nests[0]; k++) {
+        const struct rowlock_nest *nest = lend_copy(&nests[k].nest, sizeof nests[k].nest);
+        size_t *most = lend(sizeof *most);
+        CHECK(rowlock_most_receivers(nest, most) == ROWLOCK_DONE);
+        CHECK(*most == nests[k].most);
+    }
 }
 
 /* The first so many bytes of the text: all of it is read, and less is malformed. */
@@ -313,6 +341,7 @@ int main(void) {
     for (round_at_start = 0; round_at_start < 2; round_at_start++) {
         for (size_t k = 0; k < sizeof damages / sizeof damages[0]; k++)
             try_nest(&damages[k]);
+        try_bounds();
         for (size_t length = 0; length < sizeof text; length++)
             try_read(length);
         for (size_t room = 0; room < sizeof listing + 3; room++)

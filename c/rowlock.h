@@ -3,8 +3,8 @@
  *
  * Each function takes any numbers and any lengths, and returns ROWLOCK_DONE or the number of one
  * refusal. A refused call changes no lent table, state or text buffer. What a function answers
- * beside its number (`iterations`, `nest` of rowlock_read, `length`, `span`, `counts`, `made`) is
- * always stored, zeros where the call is refused.
+ * beside its number (`iterations`, `most`, `nest` of rowlock_read, `length`, `span`, `counts`,
+ * `made`) is always stored, zeros where the call is refused.
  *
  * What a caller has to keep, and all of it:
  * - No pointer is null, not even where its length is 0, and each is aligned as its type asks.
@@ -91,6 +91,13 @@ uint8_t rowlock_check(const struct rowlock_nest *nest);
 
 /* The same, with the number of iterations. */
 uint8_t rowlock_inspect(const struct rowlock_nest *nest, size_t *iterations);
+
+/* How many other blocks a block of the nest's plan sends to at most: twice the number of
+ * dependences less the number of chosen vectors, grouping and auxiliary. A block sends to another
+ * if a dependence leads from an iteration of one to an iteration of the other. It is for sizing a
+ * processor's list of addresses before the nest is planned: so many for each block that the
+ * processor holds. Refusals 2 to 13. */
+uint8_t rowlock_most_receivers(const struct rowlock_nest *nest, size_t *most);
 
 /* A nest from its text; unused places are 0. Refusals 1 to 13. */
 uint8_t rowlock_read(const uint8_t *text, size_t text_length, struct rowlock_nest *nest);

@@ -46,6 +46,17 @@ pub fn inspect(nest: &Nest) -> Result<usize, Refusal> {
     Ok(iterations)
 }
 
+/// How many other blocks a block of the nest's plan sends to at most: twice the number of
+/// dependences less the number of chosen vectors, grouping and auxiliary. A block sends to another
+/// if a dependence leads from an iteration of one to an iteration of the other. It is for sizing a
+/// processor's list of addresses before the nest is planned: so many for each block that the
+/// processor holds. Refusals 2 to 13.
+pub fn most_receivers(nest: &Nest) -> Result<usize, Refusal> {
+    let mut most = 0;
+    Refusal::of(exported::most_receivers(nest, &mut most))?;
+    Ok(most)
+}
+
 /// A nest from its text; unused places are 0. Refusals 1 to 13.
 pub fn read(text: &[u8]) -> Result<Nest, Refusal> {
     let mut nest = Nest::default();

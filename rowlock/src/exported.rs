@@ -18,6 +18,7 @@ mod library {
     extern "C" {
         pub fn rowlock_check(nest: *const Nest) -> u8;
         pub fn rowlock_inspect(nest: *const Nest, iterations: *mut usize) -> u8;
+        pub fn rowlock_most_receivers(nest: *const Nest, most: *mut usize) -> u8;
         pub fn rowlock_read(text: *const u8, text_length: usize, nest: *mut Nest) -> u8;
         pub fn rowlock_write(
             nest: *const Nest,
@@ -79,6 +80,11 @@ pub fn check(nest: &Nest) -> u8 {
 pub fn inspect(nest: &Nest, iterations: &mut usize) -> u8 {
     // SAFETY: both pointers are references', and what is written is lent alone.
     unsafe { library::rowlock_inspect(nest, iterations) }
+}
+
+pub fn most_receivers(nest: &Nest, most: &mut usize) -> u8 {
+    // SAFETY: both pointers are references', and what is written is lent alone.
+    unsafe { library::rowlock_most_receivers(nest, most) }
 }
 
 pub fn read(text: &[u8], nest: &mut Nest) -> u8 {

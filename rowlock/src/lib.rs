@@ -31,7 +31,8 @@ mod nest;
 mod refusal;
 
 pub use entries::{
-    check, fill, inspect, list, locate, make_move, plan, read, row, write, Counts, Made, Move,
+    check, fill, inspect, list, locate, make_move, most_receivers, plan, read, row, write, Counts,
+    Made, Move,
 };
 pub use nest::Nest;
 pub use refusal::Refusal;

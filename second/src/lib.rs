@@ -19,6 +19,8 @@ pub mod nest;
 pub mod partition;
 pub mod plan;
 pub mod rational;
+pub mod receivers;
 pub mod refusal;
 pub mod sequential;
 pub mod text;
+pub mod worked;

@@ -9,6 +9,7 @@
 //! | `refused.rs` | nests with one refusal |
 //! | `twice.rs` | nests with two refusals or more |
 //! | `damaged.rs` | texts that are damaged |
+//! | `receivers.rs` | how many other blocks a block sends to, and nests where they are the most |
 //! | `feeding.rs` | how a text is given to a program and its listing taken |
 //! | `bin/compare.rs` | the comparison of a planning program with the second planner |
 
@@ -17,6 +18,7 @@ pub mod damaged;
 pub mod feeding;
 pub mod gaps;
 pub mod random;
+pub mod receivers;
 pub mod refused;
 pub mod twice;
 

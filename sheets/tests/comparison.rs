@@ -20,49 +20,58 @@ fn second_plan() -> String {
 /// Two comparisons at once would save their differences in one place.
 static ONE_AT_A_TIME: Mutex<()> = Mutex::new(());
 
-/// Compares a program on 200 texts; answers whether it ends well, and what it prints.
-fn compare(program: &str) -> (bool, String) {
+/// Compares a program on so many texts; answers whether it ends well, and what it prints.
+fn compare(program: &str, count: &str) -> (bool, String) {
     let _alone = ONE_AT_A_TIME.lock();
     let mut command = Command::new(env!("CARGO_BIN_EXE_compare"));
-    command.args([program, "200", "7"]).env("SECOND_PLAN", second_plan());
+    command.args([program, count, "7"]).env("SECOND_PLAN", second_plan());
     let output = command.output().expect("a comparison that can be started");
     (output.status.success(), String::from_utf8(output.stdout).expect("a summary"))
 }
 
-/// How many texts a summary says to be given in a manner, and how many of these to differ.
+/// How many texts a summary says to be given in a manner, and how many of these to have failed.
 fn counts(summary: &str, manner: &str) -> (u64, u64) {
     let count = |row: &str| {
         let (all, rest) = row.trim_start().split_once("  ")?;
-        let differing = match rest.strip_prefix(manner)? {
+        let failed = match rest.strip_prefix(manner)? {
             "" => 0,
-            remark => remark.strip_prefix(", ")?.strip_suffix(" differ")?.parse().ok()?,
+            remark => remark.strip_prefix(", ")?.strip_suffix(" failed")?.parse().ok()?,
         };
-        Some((all.parse().ok()?, differing))
+        Some((all.parse().ok()?, failed))
     };
     summary.lines().find_map(count).expect("a manner that comes up")
 }
 
 #[test]
 fn the_second_planner_agrees_with_itself() {
-    let (ends_well, summary) = compare(&second_plan());
+    let (ends_well, summary) = compare(&second_plan(), "200");
     assert!(ends_well, "{summary}");
-    assert!(summary.ends_with("\n200 passed, 0 failed\n"), "{summary}");
+    assert!(summary.ends_with("\n201 passed, 0 failed\n"), "{summary}");
+}
+
+/// The first text is one loop: all projections are zero, and no block sends to another.
+#[test]
+fn a_run_in_which_nothing_reaches_the_bound_fails() {
+    let (ends_well, summary) = compare(&second_plan(), "1");
+    assert!(!ends_well, "{summary}");
+    assert!(summary.contains("\nfailed: 0 of 1 accepted texts have a block"), "{summary}");
+    assert!(summary.ends_with("\n1 passed, 1 failed\n"), "{summary}");
 }
 
 #[test]
 fn a_program_that_reads_once_differs() {
-    let (ends_well, summary) = compare(READS_ONCE);
+    let (ends_well, summary) = compare(READS_ONCE, "200");
     assert!(!ends_well, "{summary}");
     assert_eq!(counts(&summary, "whole").1, 0, "{summary}");
     for manner in ["in pieces", "byte by byte"] {
-        let (all, differing) = counts(&summary, manner);
-        assert!(all >= 5 && differing >= 1, "{summary}");
+        let (all, failed) = counts(&summary, manner);
+        assert!(all >= 5 && failed >= 1, "{summary}");
     }
 }
 
 #[test]
 fn a_program_that_does_not_wait_for_its_reader_differs() {
-    let (ends_well, summary) = compare(DOES_NOT_WAIT);
+    let (ends_well, summary) = compare(DOES_NOT_WAIT, "200");
     assert!(!ends_well, "{summary}");
     assert!(counts(&summary, "whole, listing taken late").1 >= 1, "{summary}");
 }

@@ -4,9 +4,14 @@
 //!
 //! Each of COUNT texts is given to PLAN_PROGRAM on standard input, some in pieces or byte by byte,
 //! and some listings are taken late; what it prints must be the second planner's listing, byte for
-//! byte. The first texts that differ are saved in the directory `differences` beside the one that
-//! this program stands in (target/differences). The last line says 'N passed, M failed'; the exit
-//! status is 0 only if all COUNT texts passed.
+//! byte. In an accepted text no block may send to more others than 2m - β, the bound of document
+//! 02, U3. The first texts that fail are saved in the directory `differences` beside the one that
+//! this program stands in (target/differences).
+//!
+//! One test more is that in some text a block sends to as many others as the bound allows; texts
+//! without one would not tell whether the bound is larger than it has to be. It takes a COUNT of a
+//! few hundred. The last line says 'N passed, M failed'; the exit status is 0 only if all COUNT
+//! texts and this test passed.
 
 use std::collections::BTreeMap;
 use std::io;
@@ -18,11 +23,12 @@ use std::{env, fs, thread};
 
 use second::{listing, text};
 use sheets::feeding::{self, Manner};
+use sheets::receivers::Counted;
 use sheets::Case;
 
 /// How many runs of the program there are at once.
 const RUNS_AT_ONCE: usize = 2;
-/// How many differing texts are saved.
+/// How many texts that failed are saved.
 const MOST_SAVED: usize = 20;
 
 /// What the user asked for.
@@ -41,15 +47,17 @@ struct Outcome {
     manner: &'static str,
     /// What the second planner makes of the text, for the summary.
     answer: String,
-    difference: Option<Difference>,
+    /// How many others the blocks of an accepted text send to, and the bound.
+    counted: Option<Counted>,
+    failure: Option<Failure>,
 }
 
-/// A text on which the listings differ.
-struct Difference {
+/// A text that failed, with both listings, and why it did.
+struct Failure {
     text: Vec<u8>,
     expected: Vec<u8>,
     printed: Vec<u8>,
-    ending: String,
+    reason: String,
 }
 
 fn main() -> ExitCode {
@@ -110,53 +118,88 @@ fn compare_in_turn(
 fn compare_one(request: &Request, index: u64) -> io::Result<Outcome> {
     let Case { family, kind, text } = sheets::case(request.seed, index);
     let expected = listing::listing(&text).into_bytes();
-    let answer = match text::read(&text) {
+    let read = text::read(&text);
+    let answer = match &read {
         Ok(nest) => format!("accepted, depth {}", nest.depth),
         Err(number) => format!("refused, number {number:2}"),
     };
+    let counted = read.ok().map(|nest| Counted::of(&nest));
     let manner = Manner::of(request.seed, index, text.len(), expected.len());
     let (printed, ending) = feeding::run(&request.program, &text, &manner)?;
-    let same = printed == expected && ending.is_none();
-    let difference = (!same).then(|| Difference {
-        text,
-        expected,
-        printed,
-        ending: ending.unwrap_or_else(|| "another listing".into()),
-    });
-    Ok(Outcome { index, family, kind, manner: manner.name(), answer, difference })
+    let reason = ending.or_else(|| reason_of_failure(printed == expected, counted));
+    let failure = reason.map(|reason| Failure { text, expected, printed, reason });
+    Ok(Outcome { index, family, kind, manner: manner.name(), answer, counted, failure })
 }
 
-/// Prints the summary and saves the first differences.
+/// Why a text failed on which the program ended by itself, if it did. Where the listings are the
+/// same, so are the blocks, and what the second planner counts on its own is counted on the
+/// program's.
+fn reason_of_failure(same: bool, counted: Option<Counted>) -> Option<String> {
+    if !same {
+        Some("another listing".into())
+    } else if counted.is_some_and(|counted| counted.exceeds()) {
+        Some("a block that sends to more others than the bound allows".into())
+    } else {
+        None
+    }
+}
+
+/// What is counted on the texts in which a block sends to as many others as the bound allows.
+fn reaching(outcomes: &[Outcome]) -> Vec<Counted> {
+    let counted = outcomes.iter().filter_map(|outcome| outcome.counted);
+    counted.filter(Counted::reaches).collect()
+}
+
+/// How many tests passed and failed: one for each text, and one that the bound is reached.
+fn tests(outcomes: &[Outcome]) -> (usize, usize) {
+    let failed_texts = outcomes.iter().filter(|outcome| outcome.failure.is_some()).count();
+    let failed = failed_texts + usize::from(reaching(outcomes).is_empty());
+    (outcomes.len() + 1 - failed, failed)
+}
+
+/// Prints the summary and saves the first texts that failed.
 fn report(request: &Request, outcomes: &[Outcome]) -> ExitCode {
-    let differing: Vec<&Outcome> =
-        outcomes.iter().filter(|outcome| outcome.difference.is_some()).collect();
     print_counts("By what the text was made as:", outcomes, |outcome| outcome.family);
     print_counts("By how the text was given:", outcomes, |outcome| outcome.manner);
     print_counts("By the second planner's answer:", outcomes, |outcome| &outcome.answer);
-    if let Err(error) = save_differences(&differing) {
-        println!("Differences could not be saved: {error}");
+    if let Err(error) = save_failures(outcomes) {
+        println!("Texts that failed could not be saved: {error}");
     }
-    let failed = differing.len();
-    let passed = outcomes.len() - failed;
+    print_bound(outcomes);
+    let (passed, failed) = tests(outcomes);
     println!("{passed} passed, {failed} failed");
-    if failed == 0 && passed as u64 == request.count {
+    if failed == 0 && passed as u64 == request.count + 1 {
         ExitCode::SUCCESS
     } else {
         ExitCode::FAILURE
     }
 }
 
-/// Prints how many texts were compared under each heading, and how many of them differ.
+/// Prints how many of the accepted texts reach the bound, and how many of these have a dependence
+/// that is not chosen, for which the bound has two blocks.
+fn print_bound(outcomes: &[Outcome]) {
+    let accepted = outcomes.iter().filter(|outcome| outcome.counted.is_some()).count();
+    let reaching = reaching(outcomes);
+    let with_two = reaching.iter().filter(|counted| counted.not_chosen > 0).count();
+    let verdict = if reaching.is_empty() { "failed: " } else { "" };
+    println!(
+        "{verdict}{} of {accepted} accepted texts have a block that sends to 2m - β others, \
+         {with_two} of them with m above β",
+        reaching.len()
+    );
+}
+
+/// Prints how many texts were compared under each heading, and how many of them failed.
 fn print_counts(title: &str, outcomes: &[Outcome], heading: impl Fn(&Outcome) -> &str) {
     let mut counts: BTreeMap<&str, (usize, usize)> = BTreeMap::new();
     for outcome in outcomes {
-        let (all, differing) = counts.entry(heading(outcome)).or_default();
+        let (all, failed) = counts.entry(heading(outcome)).or_default();
         *all += 1;
-        *differing += usize::from(outcome.difference.is_some());
+        *failed += usize::from(outcome.failure.is_some());
     }
     println!("{title}");
-    for (name, (all, differing)) in counts {
-        let remark = if differing > 0 { format!(", {differing} differ") } else { String::new() };
+    for (name, (all, failed)) in counts {
+        let remark = if failed > 0 { format!(", {failed} failed") } else { String::new() };
         println!("{all:8}  {name}{remark}");
     }
 }
@@ -168,23 +211,64 @@ fn differences_directory() -> io::Result<PathBuf> {
     Ok(target.join("differences"))
 }
 
-/// Saves the first differing texts with both listings; those of an earlier comparison go.
-fn save_differences(differing: &[&Outcome]) -> io::Result<()> {
+/// Saves the first texts that failed with both listings; those of an earlier comparison go.
+fn save_failures(outcomes: &[Outcome]) -> io::Result<()> {
     let directory = differences_directory()?;
     if directory.exists() {
         fs::remove_dir_all(&directory)?;
     }
-    for outcome in differing.iter().take(MOST_SAVED) {
-        let Some(difference) = &outcome.difference else {
-            continue;
-        };
+    let failed = outcomes.iter().filter_map(|outcome| Some((outcome, outcome.failure.as_ref()?)));
+    for (outcome, failure) in failed.take(MOST_SAVED) {
         fs::create_dir_all(&directory)?;
         let file = |ending: &str| directory.join(format!("{:06}.{ending}", outcome.index));
-        fs::write(file("text"), &difference.text)?;
-        fs::write(file("expected"), &difference.expected)?;
-        fs::write(file("printed"), &difference.printed)?;
+        fs::write(file("text"), &failure.text)?;
+        fs::write(file("expected"), &failure.expected)?;
+        fs::write(file("printed"), &failure.printed)?;
         let Outcome { index, family, kind, manner, .. } = outcome;
-        println!("differs: {index:06} ({family}: {kind}; {manner}; {})", difference.ending);
+        println!("failed: {index:06} ({family}: {kind}; {manner}; {})", failure.reason);
     }
     Ok(())
+}
+
+#[cfg(test)]
+mod tests {
+    use super::*;
+
+    /// The outcome of a text whose listings are the same or not, and whose blocks send to so many
+    /// others at most where 3 are allowed.
+    fn outcome(same: bool, most: Option<usize>) -> Outcome {
+        let counted = most.map(|most| Counted { most, bound: 3, not_chosen: 1 });
+        let failure = reason_of_failure(same, counted).map(|reason| Failure {
+            text: Vec::new(),
+            expected: Vec::new(),
+            printed: Vec::new(),
+            reason,
+        });
+        let (kind, answer) = (String::new(), String::new());
+        Outcome { index: 0, family: "", kind, manner: "", answer, counted, failure }
+    }
+
+    #[test]
+    fn a_block_above_the_bound_fails_its_text() {
+        let fails = |most| outcome(true, most).failure.is_some();
+        let most = [None, Some(0), Some(2), Some(3), Some(4), Some(5)];
+        assert_eq!(most.map(fails), [false, false, false, false, true, true]);
+        let outcomes = [outcome(true, Some(3)), outcome(true, Some(4)), outcome(true, None)];
+        assert_eq!(tests(&outcomes), (3, 1));
+    }
+
+    #[test]
+    fn another_listing_fails_its_text_whatever_its_blocks_send() {
+        assert_eq!(tests(&[outcome(false, None), outcome(false, Some(3))]), (1, 2));
+    }
+
+    /// A bound that is exceeded is not reached.
+    #[test]
+    fn a_run_in_which_nothing_reaches_the_bound_fails() {
+        let below = || outcome(true, Some(2));
+        assert_eq!(tests(&[below(), outcome(true, None), below()]), (3, 1));
+        assert_eq!(tests(&[below(), outcome(true, Some(4))]), (1, 2));
+        assert_eq!(tests(&[below(), outcome(true, Some(3))]), (3, 0));
+        assert_eq!(tests(&[]), (0, 1));
+    }
 }
