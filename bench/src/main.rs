@@ -102,7 +102,9 @@ fn agree(nest: &Nest, entries: [usize; 4]) -> (bool, bool) {
     let mut ours = vec![77; entries[3]];
     let mut theirs = ours.clone();
     same &= proved::fill(nest, &mut ours) == plain::fill(nest, &mut theirs) && ours == theirs;
-    (same, answer == 0)
+    let (mut ours, mut theirs) = (77, 77);
+    same &= proved::most_receivers(nest, &mut ours) == plain::most_receivers(nest, &mut theirs);
+    (same && ours == theirs, answer == 0)
 }
 
 /// Compares the planners on nests of every shape; answers how many there were and how many of them
@@ -228,6 +230,31 @@ fn report_sizes(scale: usize) {
     }
 }
 
+/// How often a call that takes less than a clock can tell is made between two readings.
+const CALLS: usize = 1000;
+
+/// The time of `most_receivers`, which looks at no iteration, beside the plain one's.
+fn report_bounds(scale: usize) {
+    println!("\nleast times of most_receivers in nanoseconds, of {CALLS} calls each\n");
+    println!("{:<26} {:>9} {:>9} {:>7}", "nest", "proved", "plain", "ratio");
+    for (name, nest, _) in &nests(scale) {
+        let (mut a, mut b) = (0, 0);
+        let t = least_times(
+            20 * scale,
+            &mut [
+                &mut || {
+                    (0..CALLS).for_each(|_| keep(proved::most_receivers(black_box(nest), &mut a)))
+                },
+                &mut || {
+                    (0..CALLS).for_each(|_| keep(plain::most_receivers(black_box(nest), &mut b)))
+                },
+            ],
+        );
+        let [ours, theirs] = [t[0], t[1]].map(|time| time / CALLS as f64);
+        println!("{name:<26} {ours:>9.0} {theirs:>9.0} {:>7.2}", ours / theirs);
+    }
+}
+
 fn main() {
     let word = std::env::args().nth(1);
     let scale = if word.as_deref() == Some("quick") { 1 } else { 10 };
@@ -236,6 +263,7 @@ fn main() {
     let mut reached = Reached::new();
     report_nests(scale, &mut reached);
     report_sizes(scale);
+    report_bounds(scale);
     runs::report("L1, 64 x 64", &l1(64), 2 * scale, &mut reached);
     let missed = reached.report();
     if word.as_deref() == Some("check") && missed > 0 {

@@ -378,6 +378,19 @@ pub fn fill(nest: &Nest, values: &mut [u16]) -> u8 {
     }
 }
 
+/// To how many other blocks a block may send; answers 0 or the number of a refusal.
+pub fn most_receivers(nest: &Nest, most: &mut usize) -> u8 {
+    *most = 0;
+    match check(nest) {
+        Err(refusal) => refusal,
+        Ok(_) => {
+            let loops = Loops::new(nest);
+            *most = 2 * loops.dependences.len() - Frame::new(&loops).chosen;
+            0
+        }
+    }
+}
+
 /// The plan of a nest; answers 0 or the number of a refusal.
 pub fn plan(nest: &Nest, tables: &mut Tables, lookup: Lookup) -> u8 {
     tables.counts = [0; 5];

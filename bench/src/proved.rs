@@ -9,6 +9,11 @@ pub fn fill(nest: &Nest, values: &mut [u16]) -> u8 {
     exported::fill(nest, values)
 }
 
+/// To how many other blocks a block may send; answers 0 or the number of a refusal.
+pub fn most_receivers(nest: &Nest, most: &mut usize) -> u8 {
+    exported::most_receivers(nest, most)
+}
+
 /// The plan of a nest; answers 0 or the number of a refusal.
 pub fn plan(nest: &Nest, tables: &mut Tables) -> u8 {
     let Tables { steps, blocks, processors, values, counts } = tables;

@@ -7,17 +7,16 @@ use Prim.Native.Nat.{ℕ, zero, suc, _<_, _≤_}
 use native.Mathlib.Nat.{suc-ne-zero, suc-inj, not-suc-le-zero, le-of-suc-le-suc}
 use native.Mathlib.Omega.{arith}
 use lib.IntN.{ℤ, pos, negℤ, _+ℤ_, _-ℤ_, _*ℤ_, +ℤ-idr, +ℤ-assoc}
-use lib.Signed.{_≤ℤ_, _<ℤ_}
+use lib.Signed.{_≤ℤ_}
 use lib.ListN.{length, getD}
 use Rattle.integers.specs.Division.{floorDiv, leftOver}
 use Rattle.integers.proofs.Division.{floor-step, leftOver-low, leftOver-high}
-use Rattle.integers.proofs.Linear.{ints, sum, dif, opp}
+use Rattle.integers.proofs.Linear.{ints, sum, opp}
 use Rattle.integers.proofs.Solver.{var, con, _⊕_, _⊖_, _⊗_, ring}
 use Rattle.integers.specs.Vector.{Vector}
 use Rattle.grouping.specs.Grouping.{quotients}
 use Rattle.grouping.proofs.Vectors.{comp}
 use Rattle.grouping.proofs.Elimination.{sumAt}
-use Rattle.grouping.proofs.Blocks.{quotients-length}
 
 -- ---- t more at place p; nothing where there is no such place
 abbrev pub raise : ℕ → ℤ → List ℤ → List ℤ

@@ -3,27 +3,27 @@
 -- Along any dependence the iterations of a block lead to at most two blocks: their coordinates differ in the last only, and by less than the group size, and so do those of the
 -- iterations that they lead to. Along a chosen vector they lead to one other block at most: one coordinate is 1 more, so a block's quotients stay, or one of them is 1 more. The vectors chosen are β of the m.
 -- Assumes nothing.
-use mathlib.Core.Path.{_≡_, refl, sym, ap, ap₂, _∙_, subst}
+use mathlib.Core.Path.{_≡_, refl, sym, ap, ap₂, _∙_}
 use mathlib.Core.Bool.{Bool, true, false}
 use mathlib.Core.Logic.{_⊎_, inl, inr, ⊎-elim, _≢_, _↔_}
-use mathlib.Core.List.{List, [], _∷_, map, List·Memᴰ}
+use mathlib.Core.List.{List, [], _∷_, map}
 use mathlib.Core.Option.{some}
-use Prim.Native.Nat.{ℕ, suc, _+_, _*_, _-_, _<_, _≤_}
+use Prim.Native.Nat.{ℕ, _+_, _*_, _<_, _≤_}
 use native.Mathlib.Nat.{mul-comm}
 use native.Mathlib.Omega.{arith}
 use borrow.Author.Tests.{eq-eqb, ne-eqb}
 use lib.Dec.{eqb}
-use lib.IntN.{ℤ, pos, negℤ, _+ℤ_, _-ℤ_, _*ℤ_}
+use lib.IntN.{ℤ, pos, negℤ, _+ℤ_, _*ℤ_}
 use lib.ListN.{length, getD, length-map}
 use Rattle.integers.specs.Division.{leftOver}
-use Rattle.integers.specs.Lists.{any, place, tab, count, oneIf, total, repeats}
-use Rattle.integers.specs.Vector.{Vector, minus, eqV}
+use Rattle.integers.specs.Lists.{any, place, tab, count, oneIf, repeats}
+use Rattle.integers.specs.Vector.{Vector, eqV}
 use Rattle.integers.proofs.Linear.{ints}
 use Rattle.integers.proofs.Ring.{*ℤ-idl}
 use Rattle.integers.proofs.ListFacts.{getD-map, any-mem}
 use Rattle.integers.proofs.Lists.{split, clash, length-tab, any-tab-some, any-tab-found, place-below, place-passes}
-use Rattle.integers.proofs.Solver.{var, con, _⊕_, _⊖_, _⊗_, ring}
-use Rattle.integers.proofs.Sums.{one-yes, one-no, one-most, count-less, count-nowhere, count-one, count-two, count-some, count-most, total-with, count-listed}
+use Rattle.integers.proofs.Solver.{var, _⊕_, _⊖_, ring}
+use Rattle.integers.proofs.Sums.{one-no, one-most, count-less, count-nowhere, count-one, count-two, count-some, count-most, total-with, count-listed}
 use Rattle.integers.proofs.Vector.{eqV-true, eqV-refl}
 use Rattle.nest.specs.declared.LoopNest.{LoopNest}
 use Rattle.nest.specs.Nest.{depthOf, countOf, timeOf, dependencesOf}
@@ -36,13 +36,13 @@ use Rattle.grouping.specs.Projection.{projection}
 use Rattle.grouping.specs.Grouping.{AllLength, shifted, chosenVectors, chosenCount, directions, frame, Group, quotients, blockNumber}
 use Rattle.grouping.proofs.Vectors.{comp, comp-projection-minus, same-components, length-projection}
 use Rattle.grouping.proofs.Elimination.{sumAt}
-use Rattle.grouping.proofs.Classes.{Sound, directions-length, length-shifted, comp-shifted}
+use Rattle.grouping.proofs.Classes.{directions-length, length-shifted, comp-shifted}
 use Rattle.grouping.proofs.Chosen.{chain-differ}
 use Rattle.grouping.proofs.Raised.{raise, raise-length, raise-none, raise-sum, raise-quotients, lastPlace, lastOf, last-most, LastApart, last-apart}
-use Rattle.partition.specs.Partition.{frameOf, blocksOf, blockCount, blockGroups, sizeOf, chosenOf, seedOf, classOf, groupAt, blockAt}
-use Rattle.partition.specs.Sending.{Sends, comesFrom, receives, receiverCount, mostReceivers, boundOf}
+use Rattle.partition.specs.Partition.{frameOf, blocksOf, blockGroups, sizeOf, chosenOf, seedOf, classOf, groupAt, blockAt}
+use Rattle.partition.specs.Sending.{comesFrom, receives, receiverCount, mostReceivers, boundOf}
 use Rattle.partition.proofs.Sends.{other-iff, some-iff, comes-iff, receives-iff}
-use Rattle.partition.proofs.Theorems.{sound, chosen-are-listed, size-some, seed-length, class-below, any-coefficients, some-coefficients, group-class, block-at, block-iff}
+use Rattle.partition.proofs.Theorems.{sound, chosen-are-listed, size-some, seed-length, class-below, any-coefficients, some-coefficients, block-at, block-iff}
 
 -- a group by its class and its quotients
 abbrev made : ℕ → List ℤ → Group

@@ -1,6 +1,6 @@
 -- Serves as examples: steps worked out by hand over plain lists of points, those of document 02
--- (U2) and beside them those of document 01; and how many other blocks each block of a nest sends to
--- (document 02, U3). proofs/Computed.antt checks all of it on the definitions, by computation.
+-- (U2) and beside them those of document 01; and how many other blocks each block of a nest sends
+-- to (document 02, U3). proofs/Computed.antt checks all of it on the definitions, by computation.
 -- Assumes nothing.
 use mathlib.Core.List.{List, [], _∷_, map}
 use Prim.Native.Nat.{ℕ}
@@ -119,17 +119,17 @@ pub record Senders : Type 0 where
 
 unfoldable pub senders : List Senders
 senders =
-    -- 000's group that sends to 2 × 3 - 2. The projection of (i,j,k) is j - k times that of (0,1,0),
-    -- the grouping vector, and i - k times that of (1,0,0), the auxiliary one; r is 3. So the group
-    -- is q = (j - k) / 3, b = i - k, and block 0 is q = 0, b = 0. It sends along (0,1,0) to q = 1, b
-    -- = 0, which holds (0,3,0); along (1,0,0) to q = 0, b = 1, which holds (1,0,0); and along
-    -- (0,0,1), which takes 1 from both coordinates, to q = 0, b = -1, which holds (0,1,1), and to q
-    -- = -1, b = -1, which holds (0,0,1).
+    -- 000's group that sends to 2 × 3 - 2. The projection of (i,j,k) is j - k times that of
+    -- (0,1,0), the grouping vector, and i - k times that of (1,0,0), the auxiliary one; r is 3. So
+    -- the group is q = (j - k) / 3, b = i - k, and block 0 is q = 0, b = 0. It sends along (0,1,0)
+    -- to q = 1, b = 0, which holds (0,3,0); along (1,0,0) to q = 0, b = 1, which holds (1,0,0); and
+    -- along (0,0,1), which takes 1 from both coordinates, to q = 0, b = -1, which holds (0,1,1),
+    -- and to q = -1, b = -1, which holds (0,0,1).
     record { nest = L2 3; most = 4; receivers = 4 ∷ [] }
     -- L1. The projections of (0,1) and (1,0) are (-1,1) / 2 and (1,-1) / 2, that of (1,1) is zero;
     -- r is 2, β is 1. With w = y - x, q is w / 2: block 0 has w = 0 and 1, block 1 w = 2 and 3,
-    -- block 2 w = -1 and -2, block 3 w = -3. One step along (0,1) adds 1 to w, one along (1,0) takes
-    -- 1 away. So 0 sends to 1 and 2, 1 to 0, 2 to 0 and 3, 3 to 2.
+    -- block 2 w = -1 and -2, block 3 w = -3. One step along (0,1) adds 1 to w, one along (1,0)
+    -- takes 1 away. So 0 sends to 1 and 2, 1 to 0, 2 to 0 and 3, 3 to 2.
     ∷ record { nest = L1 0; most = 5; receivers = 2 ∷ 1 ∷ 2 ∷ 1 ∷ [] }
     -- one dependence: the same blocks, and w only grows; 0 sends to 1, 2 to 0, 3 to 2
     ∷ record {
@@ -137,7 +137,8 @@ senders =
       most = 1;
       receivers = 1 ∷ 0 ∷ 1 ∷ 1 ∷ [];
     }
-    -- β = 0: the projection of (x,y) is (0,y), that of the only dependence zero; block y is all (x,y)
+    -- β = 0: the projection of (x,y) is (0,y), that of the only dependence zero; block y is all
+    -- (x,y)
     ∷ record {
       nest = four (vector (1 ∷ 0 ∷ [])) (vector (1 ∷ 0 ∷ []) ∷ []);
       most = 2;
@@ -149,10 +150,10 @@ senders =
       most = 3;
       receivers = 1 ∷ 1 ∷ 1 ∷ 0 ∷ [];
     }
-    -- P5: (0,3) is the grouping vector, r is 2, and the class goes by w = y - x modulo 3, with seeds
-    -- w = 0, 1, 2. Block 0 has w = 0 and 3, blocks 1 and 2 w = 1 and 2, blocks 3, 4, 5 w = -1, -2,
-    -- -3. Along (0,3) blocks 3, 4, 5 send to 2, 1, 0. (0,1) leaves the class: along it 0 sends to 1,
-    -- 1 to 2, 2 to 0, 3 to 0, 4 to 3, 5 to 4.
+    -- P5: (0,3) is the grouping vector, r is 2, and the class goes by w = y - x modulo 3, with
+    -- seeds w = 0, 1, 2. Block 0 has w = 0 and 3, blocks 1 and 2 w = 1 and 2, blocks 3, 4, 5 w =
+    -- -1, -2, -3. Along (0,3) blocks 3, 4, 5 send to 2, 1, 0. (0,1) leaves the class: along it 0
+    -- sends to 1, 1 to 2, 2 to 0, 3 to 0, 4 to 3, 5 to 4.
     ∷ record {
       nest = four (vector (1 ∷ 1 ∷ [])) (vector (0 ∷ 3 ∷ []) ∷ vector (0 ∷ 1 ∷ []) ∷ []);
       most = 3;
@@ -160,8 +161,8 @@ senders =
     }
     ∷ []
 
--- P5 on one row of four: w is 0 to 3, and the blocks are w = 0 and 3, 1, 2. Along (0,3) block 0 leads
--- to itself; along (0,1) 0 sends to 1, 1 to 2, 2 to 0.
+-- P5 on one row of four: w is 0 to 3, and the blocks are w = 0 and 3, 1, 2. Along (0,3) block 0
+-- leads to itself; along (0,1) 0 sends to 1, 1 to 2, 2 to 0.
 unfoldable pub row : LoopNest
 row = nestWith (0 ∷ 3 ∷ []) (vector (1 ∷ 1 ∷ [])) (vector (0 ∷ 3 ∷ []) ∷ vector (0 ∷ 1 ∷ []) ∷ []) 0
 

@@ -1,5 +1,5 @@
-// How many other blocks a block may send to, known before the nest is planned (document 02, U3; 000,
-// theorem 2).
+// How many other blocks a block may send to, known before the nest is planned (document 02, U3;
+// 000, theorem 2).
 use crate::inputs::basis_of;
 use crate::inputs::size_of;
 use nest::LoopNest;
@@ -27,8 +27,8 @@ fn chosen_count(s: LoopNest) -> usize
     f.count
 }
 
-// 2m - β. Of the m dependences β are chosen, and along each of those a block sends to one other block
-// at most; along each of the rest to two.
+// 2m - β. Of the m dependences β are chosen, and along each of those a block sends to one other
+// block at most; along each of the rest to two.
 fn bound(m: usize, chosen: usize) -> usize
     requires { ⌜ (chosen ≤ m) × (1 ≤ m) × (m ≤ maxDependences) ⌝ }
     ensures { λ r. ⌜ r ≡ 2 * m - chosen ⌝ }

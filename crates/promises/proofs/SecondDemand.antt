@@ -136,7 +136,7 @@ module _ (s : LoopNest) (old : Tables) (p : Planning) (t : Tables) (P : Plans s 
         (λ e. i .0 (sym (block-at j hj) ∙ e ∙ block-at k hk), λ e. block-at j hj ∙ i .1 e ∙ sym (block-at k hk));
     one-a-step = λ j k hj hk b e. one-iteration-a-step s ok j k hj hk (sym (block-at j hj) ∙ b ∙ block-at k hk) (sym (step-at j hj) ∙ e ∙ step-at k hk);
     later-step = λ i hi j k hj hk e. omega (arith, step-at j hj, step-at k hk, later-step s ok i hi j k hj hk e);
-    receivers = receivers;
+    receivers = λ b h. omega (arith, receivers b h);
     most = λ r e b h. omega (arith, receivers b h, most-is s ok, ap (λ (x : Receivers). x .most) e, most-accepted s ok);
     one-processor = one-processor;
     processor-below = λ k h. subst (λ n. n < 2 ^ toℕ (s .cube)) (sym (processor-at k h)) (processors-below s k h);

@@ -1,9 +1,9 @@
 -- Demand 2 (document 00): an accepted nest's steps, blocks, processors, counts and values are those
 -- of the published projection, grouping and Gray numbering, with the free choices fixed in document
 -- 01 and the steps as document 02 numbers them (U2); each iteration is in one block, no two
--- iterations of a block are at one step, every dependence leads to a later step, a block sends to at
--- most 2m - β others (document 02, U3). A refusal comes under its stated condition and no other. A
--- nest read and written is the same nest, as text and as numbers. It is said of what calls of the
+-- iterations of a block are at one step, every dependence leads to a later step, a block sends to
+-- at most 2m - β others (document 02, U3). A refusal comes under its stated condition and no other.
+-- A nest read and written is the same nest, as text and as numbers. It is said of what calls of the
 -- entries answer and leave. Assumes nothing.
 use mathlib.Core.Path.{_≡_}
 use mathlib.Core.List.{List, _++_}
