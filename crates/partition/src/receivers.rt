@@ -30,7 +30,7 @@ fn chosen_count(s: LoopNest) -> usize
 // 2m - β. Of the m dependences β are chosen, and along each of those a block sends to one other
 // block at most; along each of the rest to two.
 fn bound(m: usize, chosen: usize) -> usize
-    requires { ⌜ (chosen ≤ m) × (1 ≤ m) × (m ≤ maxDependences) ⌝ }
+    requires { ⌜ (chosen ≤ m) × (m ≤ maxDependences) ⌝ }
     ensures { λ r. ⌜ r ≡ 2 * m - chosen ⌝ }
 {
     2 * m - chosen

@@ -45,9 +45,7 @@ chosen-count-requires : tie.Need-chosen-count-requires
 chosen-count-requires c κs = search needs
 
 bound-requires : tie.Need-bound-requires
-bound-requires c κs =
-    let m = count-is (nest c) (accepted c) in
-    (omega (arith, count c, c .chosen-count .ensures, chosen-few (nest c) (accepted c)), omega (arith, count c, m), omega (arith, count c, m))
+bound-requires c κs = (omega (arith, count c, c .chosen-count .ensures, chosen-few (nest c) (accepted c)), omega (arith, count c, count-is (nest c) (accepted c)))
 
 returns-2 : tie.Need-returns-2
 returns-2 c =
