@@ -110,9 +110,9 @@ pub record LastApart (r : ℕ) (cs bs : List ℤ) : Type 0 where
   pub high : (leftOver (lastOf bs) (pos r) +ℤ more) ≤ℤ pos r
 
 -- two numbers with one quotient
-numbers-apart : (r : ℕ) → 1 ≤ r → (c b : ℤ) → floorDiv c (pos r) ≡ floorDiv b (pos r) → leftOver b (pos r) +ℤ (c -ℤ b) ≡ leftOver c (pos r)
+numbers-apart : (r : ℕ) (c b : ℤ) → floorDiv c (pos r) ≡ floorDiv b (pos r) → leftOver b (pos r) +ℤ (c -ℤ b) ≡ leftOver c (pos r)
 unfolding leftOver
-numbers-apart r h c b e =
+numbers-apart r c b e =
     ring (b ∷ c ∷ floorDiv b (pos r) ∷ pos r ∷ []) ((var 0 ⊖ var 2 ⊗ var 3) ⊕ (var 1 ⊖ var 0)) (var 1 ⊖ var 2 ⊗ var 3) tt ∙ ap (λ z. c -ℤ z *ℤ pos r) (sym e)
 
 -- coordinates with equal quotients
@@ -127,7 +127,7 @@ last-apart r h [] [] l e = record {
 last-apart r h [] (b ∷ bs) l e = absurd (suc-ne-zero (length bs) (sym l))
 last-apart r h (c ∷ cs) [] l e = absurd (suc-ne-zero (length cs) l)
 last-apart r h (c ∷ []) (b ∷ []) l e =
-    let q = numbers-apart r h c b (ap (λ (w : List ℤ). getD w 0 (pos 0)) e) in
+    let q = numbers-apart r c b (ap (λ (w : List ℤ). getD w 0 (pos 0)) e) in
     let one : pos 1 ≤ℤ pos r = omega ints in
     record {
       more = c -ℤ b;

@@ -1,5 +1,5 @@
-// How many other blocks a block may send to, known before the nest is planned (document 02, U3;
-// 000, theorem 2).
+// To how many other blocks a block sends at most, known before the nest is planned (document 02,
+// U3; 000, theorem 2).
 use crate::inputs::basis_of;
 use crate::inputs::size_of;
 use nest::LoopNest;
@@ -11,13 +11,13 @@ ghost use Rattle.partition.specs.Partition.{chosenOf};
 ghost use Rattle.partition.specs.Sending.{Bounds};
 
 // What `most_receivers` answers: the number of the first refusal with 0, or 0 with the number of
-// other blocks that no block sends to more of.
+// other blocks to which a block sends at most.
 pub struct Receivers {
     pub refusal: u8,
     pub most: usize,
 }
 
-// How many vectors an accepted nest has that are chosen: β.
+// β of an accepted nest: how many vectors are chosen, the grouping vector among them.
 fn chosen_count(s: LoopNest) -> usize
     requires { ⌜ refusal s ≡ 0 ⌝ }
     ensures { λ r. ⌜ r ≡ chosenOf s ⌝ }
@@ -36,7 +36,7 @@ fn bound(m: usize, chosen: usize) -> usize
     2 * m - chosen
 }
 
-// The number of other blocks that no block of a nest sends to more of, 2m - β; or the number of the
+// To how many other blocks a block of a nest's plan sends at most, 2m - β; or the number of the
 // first refusal, 2 to 13, with 0.
 pub fn most_receivers(s: LoopNest) -> Receivers
     ensures { λ r. ⌜ Bounds s r ⌝ }

@@ -44,8 +44,8 @@ pub extern "C" fn rowlock_inspect(numbers: &[i64; NUMBERS], iterations: &mut usi
     known.refusal
 }
 
-// To how many other blocks a block may send, before the nest is planned: 2m - β, and no block of
-// the plan sends to more; or the number of the first refusal, 2 to 13, with 0.
+// To how many other blocks a block of a nest's plan sends at most, before it is planned; or the
+// number of the first refusal, 2 to 13, with 0.
 #[no_mangle]
 pub extern "C" fn rowlock_most_receivers(numbers: &[i64; NUMBERS], most: &mut usize) -> u8
     ensures { λ r. ⌜ Bounds (nestIn (now (numbers .entry)))
