@@ -1,5 +1,6 @@
 /* Calls every function of the library from C, with valid and damaged input, on the nest of document
- * 01's listing; what must be answered and left is from there.
+ * 01's listing; what must be answered and left is from there. Then the same nest with a boundary
+ * value for each dependence, whose values are worked out below.
  *
  * Each buffer is lent between two pages that may not be touched: in a first round its last byte
  * stands before the second, in a second round its first byte behind the first. A byte out of
@@ -47,24 +48,70 @@ static const char listing[] =
 static const struct rowlock_nest whole = {
     .depth = 2, .count = 2, .cube = 1,
     .upper = {1, 2}, .time = {1, 1}, .dependences = {0, 1, 0, 1, 0, 0},
-    .boundary = 1, .weights = {2, 3},
+    .boundaries = {1, 1}, .weights = {2, 3},
+};
+
+/* the same nest in the long form, which is written again as the text above */
+static const char equal_text[] =
+    "     2     2     1\n"
+    "     0     1\n"
+    "     0     2\n"
+    "     1     1\n"
+    "     0     1\n"
+    "     1     0\n"
+    "     1     1     2     3\n";
+
+/* and with boundary value 1 for (0,1) and 10 for (1,0) */
+static const char different_text[] =
+    "     2     2     1\n"
+    "     0     1\n"
+    "     0     2\n"
+    "     1     1\n"
+    "     0     1\n"
+    "     1     0\n"
+    "     1    10     2     3\n";
+static const struct rowlock_nest different = {
+    .depth = 2, .count = 2, .cube = 1,
+    .upper = {1, 2}, .time = {1, 1}, .dependences = {0, 1, 0, 1, 0, 0},
+    .boundaries = {1, 10}, .weights = {2, 3},
 };
 /* clang-format on */
+
+/* A value is the rank, 2 times what is on the left, and 3 times what is above; 1 is on the left of
+ * column 0, and 10 is above row 0:
+ *     (0,0)  0 + 2 *   1 + 3 *  10 =   32
+ *     (0,1)  1 + 2 *  32 + 3 *  10 =   95
+ *     (0,2)  2 + 2 *  95 + 3 *  10 =  222
+ *     (1,0)  3 + 2 *   1 + 3 *  32 =  101
+ *     (1,1)  4 + 2 * 101 + 3 *  95 =  491
+ *     (1,2)  5 + 2 * 491 + 3 * 222 = 1653 */
+static const uint16_t different_values[ITERATIONS] = {32, 95, 222, 101, 491, 1653};
 static const uint32_t steps[ITERATIONS] = {0, 1, 2, 1, 2, 3};
 static const uint16_t blocks[ITERATIONS] = {0, 0, 1, 2, 0, 0};
 static const uint8_t processors[ITERATIONS] = {0, 0, 1, 0, 0, 0};
 static const uint16_t values[ITERATIONS] = {5, 14, 33, 20, 86, 276};
 static const size_t counts[5] = {6, 4, 3, 2, 2}, no_counts[5];
 
+/* the pages that are lent; a process may have so many only, so they are given back now and then */
+#define MOST_LENT 2048
+static struct {
+    void *pages;
+    size_t size;
+} pages_lent[MOST_LENT];
+static size_t lent_count;
+
 /* So many bytes between two pages that may not be touched, each with the same content. The pages
- * are kept to the end. */
+ * are kept until all are given back. */
 static void *lend(size_t size) {
     size_t page = (size_t)sysconf(_SC_PAGESIZE), inside = (size / page + 1) * page;
     uint8_t *pages = mmap(NULL, inside + 2 * page, PROT_NONE, MAP_PRIVATE | MAP_ANONYMOUS, -1, 0);
-    if (pages == MAP_FAILED || mprotect(pages + page, inside, PROT_READ | PROT_WRITE) != 0) {
+    if (pages == MAP_FAILED || mprotect(pages + page, inside, PROT_READ | PROT_WRITE) != 0 ||
+        lent_count == MOST_LENT) {
         perror("lend");
         exit(2);
     }
+    pages_lent[lent_count].pages = pages;
+    pages_lent[lent_count++].size = inside + 2 * page;
     memset(pages + page, 0x5A, inside);
     return pages + page + (round_at_start ? 0 : inside - size);
 }
@@ -72,6 +119,14 @@ static void *lend(size_t size) {
 /* The same, with a content. */
 static void *lend_copy(const void *bytes, size_t size) {
     return memcpy(lend(size), bytes, size);
+}
+
+/* Gives back all that is lent. */
+static void give_back(void) {
+    while (lent_count > 0) {
+        lent_count--;
+        munmap(pages_lent[lent_count].pages, pages_lent[lent_count].size);
+    }
 }
 
 /* Whether a buffer holds `size` bytes as given, and behind them, up to `room`, what it was lent
@@ -93,12 +148,16 @@ struct damage {
     uint8_t refusal;
 };
 
-/* places: depth, count, cube 0 to 2, lower 3, upper 6, time 9, dependences 12, boundary 36,
- * weights 37. Place 44, the last weight, is no part of the nest. */
+/* places: depth, count, cube 0 to 2, lower 3, upper 6, time 9, dependences 12, boundaries 36,
+ * weights 44. Places 38 to 43 and 46 to 51, of the third dependence to the eighth, are no part of
+ * the nest. */
 static const struct damage damages[] = {
-    {44, 0, 44, 0, ROWLOCK_DONE},
-    {44, INT64_MIN, 5, INT64_MAX, ROWLOCK_DONE},
+    {51, 0, 51, 0, ROWLOCK_DONE},
+    {51, INT64_MIN, 5, INT64_MAX, ROWLOCK_DONE},
     {14, 999, 18, INT64_MIN, ROWLOCK_DONE},
+    {38, 7, 46, 7, ROWLOCK_DONE},
+    {38, 65536, 46, 256, ROWLOCK_DONE},
+    {43, INT64_MIN, 38, INT64_MAX, ROWLOCK_DONE},
     {0, 0, 1, 0, ROWLOCK_BAD_DEPTH},
     {0, INT64_MAX, 2, INT64_MAX, ROWLOCK_BAD_DEPTH},
     {1, 9, 2, 7, ROWLOCK_BAD_COUNT},
@@ -107,17 +166,21 @@ static const struct damage damages[] = {
     {7, INT64_MIN, 9, 17, ROWLOCK_BAD_LIMITS},
     {6, 1000, 7, 1000, ROWLOCK_TOO_MANY_POINTS},
     {9, 17, 12, 17, ROWLOCK_BAD_TIME},
-    {12, -17, 37, 256, ROWLOCK_BAD_DEPENDENCE},
-    {15, 0, 37, 256, ROWLOCK_BACKWARD_DEPENDENCE},
+    {12, -17, 44, 256, ROWLOCK_BAD_DEPENDENCE},
+    {15, 0, 44, 256, ROWLOCK_BACKWARD_DEPENDENCE},
     {15, 0, 16, 1, ROWLOCK_EQUAL_DEPENDENCES},
-    {10, 0, 36, -1, ROWLOCK_AGAINST_TIME},
+    {10, 0, 37, -1, ROWLOCK_AGAINST_TIME},
     {9, 0, 10, 0, ROWLOCK_AGAINST_TIME},
-    {36, 65536, 44, 0, ROWLOCK_BAD_WEIGHT},
-    {38, -1, 44, 0, ROWLOCK_BAD_WEIGHT},
+    {36, 65536, 51, 0, ROWLOCK_BAD_WEIGHT},
+    {37, 65536, 51, 0, ROWLOCK_BAD_WEIGHT},
+    {37, -1, 51, 0, ROWLOCK_BAD_WEIGHT},
+    {36, -1, 37, -1, ROWLOCK_BAD_WEIGHT},
+    {44, 256, 51, 0, ROWLOCK_BAD_WEIGHT},
+    {45, -1, 51, 0, ROWLOCK_BAD_WEIGHT},
 };
 
 static struct rowlock_nest damaged(const struct damage *damage) {
-    int64_t numbers[45];
+    int64_t numbers[52];
     struct rowlock_nest nest;
     memcpy(numbers, &whole, sizeof numbers);
     numbers[damage->place] = damage->number;
@@ -146,14 +209,14 @@ static void try_most_receivers(const struct rowlock_nest *nest, uint8_t refusal)
     CHECK(*most == (refusal == ROWLOCK_DONE ? 3 : 0));
 }
 
-static void try_write(const struct rowlock_nest *nest, uint8_t refusal) {
-    for (size_t room = 0; room < sizeof text + 3; room++) {
-        uint8_t answer = owed(refusal, room >= sizeof text - 1), *buffer = lend(room);
-        size_t *length = lend(sizeof *length),
-               written = answer == ROWLOCK_DONE ? sizeof text - 1 : 0;
+/* Writes a nest whose text is as told, into buffers of all lengths up to a few bytes more. */
+static void try_write(const struct rowlock_nest *nest, uint8_t refusal, const char *told) {
+    for (size_t size = strlen(told), room = 0; room < size + 4; room++) {
+        uint8_t answer = owed(refusal, room >= size), *buffer = lend(room);
+        size_t *length = lend(sizeof *length), written = answer == ROWLOCK_DONE ? size : 0;
         CHECK(rowlock_write(nest, buffer, room, length) == answer);
         CHECK(*length == written);
-        CHECK(holds(buffer, text, written, room));
+        CHECK(holds(buffer, told, written, room));
     }
 }
 
@@ -172,13 +235,13 @@ static void try_locate(const struct rowlock_nest *nest, uint8_t refusal) {
     }
 }
 
-static void try_fill(const struct rowlock_nest *nest, uint8_t refusal) {
+/* Fills tables of all lengths up to a few entries more with the values of a nest. */
+static void try_fill(const struct rowlock_nest *nest, uint8_t refusal, const uint16_t *told) {
     for (size_t room = 0; room < ITERATIONS + 3; room++) {
         uint8_t answer = owed(refusal, room >= ITERATIONS);
         uint16_t *table = lend(room * sizeof *table);
         CHECK(rowlock_fill(nest, table, room) == answer);
-        CHECK(
-            holds(table, values, answer == ROWLOCK_DONE ? sizeof values : 0, room * sizeof *table));
+        CHECK(holds(table, told, answer == ROWLOCK_DONE ? sizeof values : 0, room * sizeof *table));
     }
 }
 
@@ -233,14 +296,15 @@ static void try_nest(const struct damage *damage) {
     const struct rowlock_nest *nest = lend_copy(&numbers, sizeof numbers);
     try_check(nest, damage->refusal);
     try_most_receivers(nest, damage->refusal);
-    try_write(nest, damage->refusal);
+    try_write(nest, damage->refusal, text);
     try_locate(nest, damage->refusal);
-    try_fill(nest, damage->refusal);
+    try_fill(nest, damage->refusal, values);
     for (size_t k = 0; k < 4 * (ITERATIONS + 3); k++)
         try_plan(nest, damage->refusal, k % 4, k / 4);
     static const size_t kinds[] = {ROWLOCK_COMPUTE, 0, 3, 256, SIZE_MAX};
     for (size_t k = 0; k < 5 * 6; k++)
         try_move(nest, damage->refusal, kinds[k / 6], k % 6);
+    give_back();
 }
 
 /* Nests of other bounds: the projection of (1,0) along (1,0) is zero, and none is chosen; that of
@@ -271,6 +335,46 @@ static void try_read(size_t length) {
     struct rowlock_nest *nest = lend(sizeof *nest);
     CHECK(rowlock_read(lent, length, nest) == answer);
     CHECK(memcmp(nest, answer == ROWLOCK_DONE ? &whole : &empty, sizeof whole) == 0);
+}
+
+/* A text is read as the nest that is told, which is written as the other text told, whatever stands
+ * behind its two dependences. */
+static void try_form(const char *lines, const struct rowlock_nest *told, const char *written) {
+    const uint8_t *lent = lend_copy(lines, strlen(lines));
+    struct rowlock_nest *nest = lend(sizeof *nest);
+    CHECK(rowlock_read(lent, strlen(lines), nest) == ROWLOCK_DONE);
+    CHECK(memcmp(nest, told, sizeof *told) == 0);
+    try_write(nest, ROWLOCK_DONE, written);
+    static const int64_t behind[] = {7, -1, 65536, INT64_MIN, INT64_MAX};
+    for (size_t k = 0; k < 5 * 6; k++) {
+        nest->boundaries[2 + k % 6] = behind[k / 6];
+        nest->weights[2 + k % 6] = behind[k / 6];
+        if (k % 6 == 5)
+            try_write(nest, ROWLOCK_DONE, written);
+    }
+    give_back();
+}
+
+/* A boundary value for each dependence: the values of the sequential loop and of a plan, and that
+ * of a first move, whose two sources are outside along different dependences. */
+static void try_different_values(void) {
+    const struct rowlock_nest *nest = lend_copy(&different, sizeof different);
+    try_fill(nest, ROWLOCK_DONE, different_values);
+    uint32_t *a = lend(sizeof steps);
+    uint16_t *b = lend(sizeof blocks), *d = lend(sizeof values);
+    uint8_t *c = lend(sizeof processors);
+    size_t *told = lend(sizeof counts), *made = lend(2 * sizeof *made);
+    CHECK(rowlock_plan(nest, a, ITERATIONS, b, ITERATIONS, c, ITERATIONS, d, ITERATIONS, told) ==
+          ROWLOCK_DONE);
+    CHECK(memcmp(told, counts, sizeof counts) == 0);
+    CHECK(holds(a, steps, sizeof steps, 0) && holds(b, blocks, sizeof blocks, 0) &&
+          holds(c, processors, sizeof processors, 0));
+    CHECK(holds(d, different_values, sizeof different_values, 0));
+    static const uint8_t zeros[ITERATIONS];
+    uint8_t *e = lend_copy(zeros, sizeof zeros), *f = lend_copy(zeros, sizeof zeros);
+    CHECK(rowlock_move(nest, ROWLOCK_COMPUTE, 0, 0, a, ITERATIONS, c, ITERATIONS, d, ITERATIONS, e,
+                       ITERATIONS, f, ITERATIONS, made) == ROWLOCK_DONE);
+    CHECK(made[0] == 0 && made[1] == 32);
 }
 
 /* The listing of the first so many bytes of the text, into a buffer of so many bytes. */
@@ -344,11 +448,17 @@ int main(void) {
         try_bounds();
         for (size_t length = 0; length < sizeof text; length++)
             try_read(length);
+        give_back();
+        try_form(text, &whole, text);
+        try_form(equal_text, &whole, text);
+        try_form(different_text, &different, different_text);
+        try_different_values();
         for (size_t room = 0; room < sizeof listing + 3; room++)
             try_list(sizeof text - 1, room);
         try_list(0, 0);
         try_list(sizeof text - 2, sizeof listing);
         try_run();
+        give_back();
     }
     return failures != 0;
 }

@@ -30,10 +30,10 @@ extern "C" {
 #define ROWLOCK_MAX_ITERATIONS 4096
 /* the bytes of the longest text of a nest, and of the longest listing: enough for every
  * rowlock_write and rowlock_list */
-#define ROWLOCK_MAX_TEXT 284
+#define ROWLOCK_MAX_TEXT 326
 #define ROWLOCK_MAX_LISTING 127007
 
-/* A loop nest: 45 numbers, any of which may be anything. Of each array the first `depth` or `count`
+/* A loop nest: 52 numbers, any of which may be anything. Of each array the first `depth` or `count`
  * places are a part of the nest; the others are ignored. */
 struct rowlock_nest {
     /* number of loops, 1 to 3 */
@@ -49,15 +49,15 @@ struct rowlock_nest {
     int64_t time[ROWLOCK_MAX_DEPTH];
     /* component k of dependence i at place i * ROWLOCK_MAX_DEPTH + k, -16 to 16 */
     int64_t dependences[ROWLOCK_MAX_DEPTH * ROWLOCK_MAX_DEPENDENCES];
-    /* what a source outside the nest reads as, 0 to 65535 */
-    int64_t boundary;
+    /* what a source outside the nest reads as, by the dependence it was reached by, 0 to 65535 */
+    int64_t boundaries[ROWLOCK_MAX_DEPENDENCES];
     /* one for each dependence, 0 to 255 */
     int64_t weights[ROWLOCK_MAX_DEPENDENCES];
 };
 
 /* does not compile where the struct has padding */
 typedef char
-    rowlock_nest_is_45_numbers[sizeof(struct rowlock_nest) == 45 * sizeof(int64_t) ? 1 : -1];
+    rowlock_nest_is_52_numbers[sizeof(struct rowlock_nest) == 52 * sizeof(int64_t) ? 1 : -1];
 
 /* what a function returns; README.md says when each refusal is met */
 enum rowlock_refusal {

@@ -9,7 +9,7 @@ pub struct Machine {
     iterations: usize,
     processors: usize,
     loops: Loops,
-    boundary: u32,
+    boundaries: [u32; 8],
     weights: [u32; 8],
 }
 
@@ -25,7 +25,7 @@ impl Machine {
             iterations,
             processors: 1 << nest.cube,
             loops: Loops::new(nest),
-            boundary: nest.boundary as u32,
+            boundaries: nest.boundaries.map(|value| value as u32),
             weights: nest.weights.map(|weight| weight as u32),
         })
     }
@@ -58,7 +58,7 @@ impl Machine {
         let mut sum = rank as u32;
         for (k, d) in self.loops.dependences.iter().enumerate() {
             let value = match self.source(rank, j, *d) {
-                None => self.boundary,
+                None => self.boundaries[k],
                 Some(source) => {
                     let here = tables.processors[source] as usize == processor;
                     let there = if here {

@@ -64,7 +64,8 @@ impl Random {
     }
 }
 
-/// A nest that is often accepted.
+/// A nest that is often accepted, with a boundary value for each dependence. (Those that are timed
+/// have one for all, as before document 02's U1.)
 fn random_nest(random: &mut Random) -> Nest {
     let depth = random.between(1, 3) as usize;
     let longest = [0, 500, 40, 12][depth];
@@ -85,6 +86,9 @@ fn random_nest(random: &mut Random) -> Nest {
         let by = random.between(-100, 100);
         nest.lower[k] += by;
         nest.upper[k] += by;
+    }
+    for value in &mut nest.boundaries[1..] {
+        *value = random.between(0, 99);
     }
     nest
 }

@@ -2,13 +2,13 @@
 
 pub use rowlock::Nest;
 
-/// A nest with limits 0 to extent - 1 for each loop.
+/// A nest with limits 0 to extent - 1 for each loop, and one boundary value for all dependences.
 pub fn with_extents(extents: &[i64], time: &[i64], dependences: &[&[i64]], cube: i64) -> Nest {
     let mut nest = Nest {
         depth: extents.len() as i64,
         count: dependences.len() as i64,
         cube,
-        boundary: 7,
+        boundaries: [7; Nest::MAX_DEPENDENCES],
         weights: [3, 5, 2, 9, 4, 1, 6, 8],
         ..Nest::default()
     };

@@ -1,7 +1,7 @@
 //! A planner as one would write it in plain Rust for speed: machine integers, few passes over the
-//! tables, nothing proved. It follows document 01, its source document 000, and for steps document
-//! 02, U2. Loops behind the depth are taken as loops of one iteration, so that there are always
-//! three.
+//! tables, nothing proved. It follows document 01, its source document 000, and document 02, U1 for
+//! boundary values and U2 for steps. Loops behind the depth are taken as loops of one iteration, so
+//! that there are always three.
 
 use std::collections::HashMap;
 
@@ -55,7 +55,7 @@ pub fn check(nest: &Nest) -> Result<usize, u8> {
         return Err(6);
     }
     check_vectors(nest, n, m)?;
-    if !(0..=65535).contains(&nest.boundary)
+    if nest.boundaries[..m].iter().any(|value| !(0..=65535).contains(value))
         || nest.weights[..m].iter().any(|w| !(0..=255).contains(w))
     {
         return Err(13);
@@ -154,19 +154,18 @@ impl Loops {
 
     /// The values of the sequential loop.
     fn fill(&self, nest: &Nest, values: &mut [u16]) {
-        let boundary = nest.boundary as u32;
-        let sources: Vec<(Vector, i64, u32)> = self
+        let sources: Vec<(Vector, i64, u32, u32)> = self
             .dependences
             .iter()
-            .zip(&nest.weights)
-            .map(|(d, w)| (*d, dot(*d, self.stride), *w as u32))
+            .zip(nest.boundaries.iter().zip(&nest.weights))
+            .map(|(d, (b, w))| (*d, dot(*d, self.stride), *b as u32, *w as u32))
             .collect();
         self.each(|rank, j| {
             let mut sum = rank as u32;
-            for (d, back, weight) in &sources {
+            for (d, back, boundary, weight) in &sources {
                 let value = self
                     .source(rank, j, *d, *back)
-                    .map_or(boundary, |source| values[source] as u32);
+                    .map_or(*boundary, |source| values[source] as u32);
                 sum += weight * value;
             }
             values[rank] = sum as u16;

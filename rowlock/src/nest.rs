@@ -1,6 +1,6 @@
 //! A loop nest as numbers.
 
-/// A loop nest: 45 numbers, any of which may be anything. Of each array the first `depth` or
+/// A loop nest: 52 numbers, any of which may be anything. Of each array the first `depth` or
 /// `count` places are a part of the nest; the others are ignored. `c/rowlock.h` has the same
 /// struct.
 #[repr(C)]
@@ -20,14 +20,14 @@ pub struct Nest {
     pub time: [i64; Nest::MAX_DEPTH],
     /// Component k of dependence i is at place i * 3 + k, -16 to 16.
     pub dependences: [i64; Nest::MAX_DEPTH * Nest::MAX_DEPENDENCES],
-    /// What a source outside the nest reads as, 0 to 65535.
-    pub boundary: i64,
+    /// What a source outside the nest reads as, by the dependence it was reached by, 0 to 65535.
+    pub boundaries: [i64; Nest::MAX_DEPENDENCES],
     /// One for each dependence, 0 to 255.
     pub weights: [i64; Nest::MAX_DEPENDENCES],
 }
 
 /// How many numbers a nest has.
-const NUMBERS: usize = 45;
+const NUMBERS: usize = 52;
 
 /// The library reads a nest as so many numbers of 64 bits without a gap.
 const _: () = assert!(size_of::<Nest>() == NUMBERS * size_of::<i64>());
@@ -48,8 +48,8 @@ impl From<[i64; NUMBERS]> for Nest {
             upper: part(&numbers, 6),
             time: part(&numbers, 9),
             dependences: part(&numbers, 12),
-            boundary: numbers[36],
-            weights: part(&numbers, 37),
+            boundaries: part(&numbers, 36),
+            weights: part(&numbers, 44),
         }
     }
 }

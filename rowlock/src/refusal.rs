@@ -34,7 +34,7 @@ refusals! {
     9 BACKWARD_DEPENDENCE "a dependence is zero, or its first component that is not zero is negative"
     10 EQUAL_DEPENDENCES "two dependences equal"
     11 AGAINST_TIME "the inner product of time vector and a dependence is below 1"
-    13 BAD_WEIGHT "boundary value not from 0 to 65535, or a weight not from 0 to 255"
+    13 BAD_WEIGHT "a boundary value not from 0 to 65535, or a weight not from 0 to 255"
     14 SHORT_BUFFER "a lent buffer has fewer entries than are needed"
     15 WAITING "compute: a source is not there"
     16 OUT_OF_TURN "delivery: no message, its source not done, or already delivered"

@@ -1,6 +1,6 @@
 //! A second planner for loop nests with constant dependences: the blocks of Sheu and Tai
 //! (source document 000) and their processors on a hypercube, with the free choices as document 01
-//! fixes them and the steps as document 02, U2, has them.
+//! fixes them, boundary values as document 02, U1, has them, and steps as U2 has them.
 //!
 //! Its only purpose is to be compared, byte for byte, with the proved planner, with which it shares
 //! no code and no language. So it follows the documents sentence by sentence, computes with exact
@@ -8,7 +8,7 @@
 //!
 //! Some of document 01's titles use words that this code does not: "The sheet" is about the loop
 //! nest, "clock span" about the time vector, "offset span" about dependences, "weight span" about
-//! boundary value and weights, "Card" about processors, "Card message" about messages, "Words from
+//! boundary values and weights, "Card" about processors, "Card message" about messages, "Words from
 //! the rack" about the numbers that calls answer.
 
 pub mod linear;

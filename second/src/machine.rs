@@ -1,5 +1,6 @@
 //! The run of the machine, move by move (document 01, "The run"): once on state tables, and once as
-//! the reference machine, which knows the nest and the moves only.
+//! the reference machine, which knows the nest and the moves only. A source outside the nest reads
+//! as in the sequential loop.
 
 use std::collections::HashSet;
 
@@ -308,6 +309,31 @@ mod tests {
         assert_eq!(state.delivered, vec![0, 0, 1, 0, 0, 2]);
     }
 
+    /// The same nest with the boundary values 1 and 10, run row by row; the value of each iteration
+    /// is worked out in tests/examples.rs.
+    #[test]
+    fn a_run_with_a_boundary_value_for_each_dependence() {
+        let text = P2.replace("     1     2     3\n", "     1    10     2     3\n");
+        let nest = text::read(text.as_bytes()).unwrap();
+        let tables = Tables::of_plan(&Plan::new(&nest));
+        let machine = Machine::new(&nest, weighted_sum(&nest)).ok().unwrap();
+        let mut state = State::fresh(vec![0; 6]);
+        let moves = [
+            compute(0),
+            compute(0),
+            deliver(2, 0),
+            compute(1),
+            compute(0),
+            compute(0),
+            deliver(5, 1),
+            compute(0),
+        ];
+        for request in moves {
+            assert_eq!(machine.execute(&tables, &mut state, request), DONE);
+        }
+        assert_eq!(state.values, vec![32, 95, 222, 101, 491, 1653]);
+    }
+
     #[test]
     fn answers_on_other_tables_and_states() {
         let nest = text::read(P2.as_bytes()).unwrap();
@@ -345,6 +371,9 @@ mod tests {
     fn a_refused_nest_makes_no_machine() {
         let mut nest = text::read(P2.as_bytes()).unwrap();
         nest.weights[1] = 256;
+        assert_eq!(Machine::new(&nest, weighted_sum(&nest)).err(), Some(WEIGHT_SPAN));
+        nest.weights[1] = 255;
+        nest.boundary_values[1] = 65536;
         assert_eq!(Machine::new(&nest, weighted_sum(&nest)).err(), Some(WEIGHT_SPAN));
     }
 }

@@ -24,8 +24,8 @@ pub struct LoopNest {
     pub time_vector: Vec<i64>,
     /// The dependences as listed, each with a component for each loop.
     pub dependences: Vec<Vec<i64>>,
-    /// What a source outside the nest reads as.
-    pub boundary_value: i64,
+    /// For each dependence, what a source outside the nest reads as that was reached by it.
+    pub boundary_values: Vec<i64>,
     /// The weight of each dependence.
     pub weights: Vec<i64>,
 }
@@ -163,9 +163,9 @@ impl LoopNest {
         self.dependences.iter().any(|dependence| inner_product(&self.time_vector, dependence) < 1)
     }
 
-    /// 13: the boundary value or one of the weights leaves its span.
+    /// 13: one of the boundary values or one of the weights leaves its span.
     fn weight_out_of_span(&self) -> bool {
-        !LoopNest::BOUNDARY_VALUES.contains(&self.boundary_value)
+        self.boundary_values.iter().any(|value| !LoopNest::BOUNDARY_VALUES.contains(value))
             || self.weights.iter().any(|weight| !LoopNest::WEIGHTS.contains(weight))
     }
 }

@@ -265,7 +265,7 @@ mod tests {
             upper: limits.iter().map(|[_, upper]| *upper).collect(),
             time_vector: time_vector.to_vec(),
             dependences: vec![dependence.to_vec()],
-            boundary_value: 0,
+            boundary_values: vec![0],
             weights: vec![1],
         };
         assert_eq!(nest.refusal(), None);

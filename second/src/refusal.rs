@@ -28,7 +28,7 @@ pub const BACKWARD_DEPENDENCE: Number = 9;
 pub const REPEATED_DEPENDENCE: Number = 10;
 /// "against the clock": P·d is not positive for some dependence d.
 pub const AGAINST_TIME_VECTOR: Number = 11;
-/// "weight span": the boundary value or one of the weights leaves its span.
+/// "weight span": one of the boundary values or one of the weights leaves its span.
 pub const WEIGHT_SPAN: Number = 13;
 /// "short tray": a buffer is too short for all iterations.
 pub const SHORT_BUFFER: Number = 14;

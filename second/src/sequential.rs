@@ -1,4 +1,4 @@
-//! The sequential loop (document 01, "Value" and the end of "The run").
+//! The sequential loop (document 01, "Value" and the end of "The run"; document 02, U1).
 
 use crate::nest::{Iterations, LoopNest};
 
@@ -21,7 +21,7 @@ pub fn weighted_sum(nest: &LoopNest) -> impl Rule + '_ {
 }
 
 /// The values of an iteration's sources, by dependence: its entry in the table for a source that is
-/// an iteration, the boundary value for any other.
+/// an iteration, the dependence's own boundary value for any other.
 pub fn source_values(
     nest: &LoopNest,
     iterations: &Iterations,
@@ -30,8 +30,9 @@ pub fn source_values(
 ) -> Vec<i64> {
     nest.dependences
         .iter()
-        .map(|dependence| match iterations.source(rank, dependence) {
-            None => nest.boundary_value,
+        .zip(&nest.boundary_values)
+        .map(|(dependence, boundary_value)| match iterations.source(rank, dependence) {
+            None => *boundary_value,
             Some(source) => table[source],
         })
         .collect()
@@ -47,4 +48,33 @@ pub fn sequential_values(nest: &LoopNest, iterations: &Iterations, rule: impl Ru
         table.push(rule(point, rank, &sources));
     }
     table
+}
+
+#[cfg(test)]
+mod tests {
+    use super::*;
+    use crate::text;
+
+    /// The indices of both loops are 0 and 1, all weights 1. Of the sources outside, one reached by
+    /// (0,1) reads as 1, by (1,1) as 100, by (1,0) as 10000.
+    const THREE: &str =
+        "     2     3     0\n     0     1\n     0     1\n     1     1\n     0     1\n     \
+                         1     1\n     1     0\n     1   100 10000     1     1     1\n";
+
+    /// (0,0) has all three sources outside: 0 + 1 + 100 + 10000 = 10101. (0,1) reads (0,0) by (0,1),
+    /// the others are outside: 1 + 10101 + 100 + 10000 = 20202. (1,0) reads (0,0) by (1,0), the
+    /// others are outside: 2 + 1 + 100 + 10101 = 10204. (1,1) has none outside: 3 + 10204 + 10101 +
+    /// 20202 = 40510.
+    #[test]
+    fn a_source_outside_reads_as_the_value_of_the_dependence_that_it_was_reached_by() {
+        let nest = text::read(THREE.as_bytes()).unwrap();
+        let iterations = Iterations::new(&nest);
+        let sources = |rank, table: &[i64]| source_values(&nest, &iterations, rank, table);
+        assert_eq!(sources(0, &[]), vec![1, 100, 10000]);
+        assert_eq!(sources(1, &[10101]), vec![10101, 100, 10000]);
+        assert_eq!(sources(2, &[10101, 20202]), vec![1, 100, 10101]);
+        assert_eq!(sources(3, &[10101, 20202, 10204]), vec![10204, 10101, 20202]);
+        let values = sequential_values(&nest, &iterations, weighted_sum(&nest));
+        assert_eq!(values, vec![10101, 20202, 10204, 40510]);
+    }
 }

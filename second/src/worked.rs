@@ -7,7 +7,7 @@
 
 use crate::nest::LoopNest;
 
-/// A nest with what is worked out of it. All lower limits are 0, all weights 1.
+/// A nest with what is worked out of it. All lower limits are 0, all boundary values and weights 1.
 #[derive(Clone, Copy, Debug)]
 pub struct Worked {
     pub name: &'static str,
@@ -35,7 +35,7 @@ impl Worked {
             upper: self.upper.to_vec(),
             time_vector: self.time_vector.to_vec(),
             dependences: self.dependences.iter().map(|dependence| dependence.to_vec()).collect(),
-            boundary_value: 1,
+            boundary_values: vec![1; self.dependences.len()],
             weights: vec![1; self.dependences.len()],
         }
     }

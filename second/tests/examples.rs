@@ -1,6 +1,6 @@
 //! Document 01's examples P1 to P10, its listing in full, the counts that source document 000
-//! gives for its loops L1 and L2, nests worked out by hand, and document 02's steps (U2) in sheets
-//! worked out by hand.
+//! gives for its loops L1 and L2, nests worked out by hand, and document 02's boundary values (U1)
+//! and steps (U2) in sheets worked out by hand.
 
 use std::fs;
 
@@ -21,7 +21,7 @@ fn silent_nest(depth: usize) -> LoopNest {
         upper: vec![3; depth],
         time_vector: vec![1; depth],
         dependences: Vec::new(),
-        boundary_value: 1,
+        boundary_values: Vec::new(),
         weights: Vec::new(),
     };
     let mut innermost = vec![0; depth];
@@ -33,6 +33,7 @@ fn silent_nest(depth: usize) -> LoopNest {
 fn set_dependences(nest: &mut LoopNest, dependences: &[&[i64]]) {
     nest.dependence_count = dependences.len() as i64;
     nest.dependences = dependences.iter().map(|dependence| dependence.to_vec()).collect();
+    nest.boundary_values = vec![1; dependences.len()];
     nest.weights = vec![1; dependences.len()];
 }
 
@@ -138,6 +139,43 @@ fn p2_listing_byte_for_byte() {
     assert_eq!(listing(P2_TEXT.as_bytes()), P2_LISTING);
     let nest = text::read(P2_TEXT.as_bytes()).unwrap();
     assert_eq!(text::write(&nest), P2_TEXT);
+}
+
+/// P2 with a boundary value for each dependence. A source that (0,1) leads to, on the left of
+/// column 0, reads as 1; one that (1,0) leads to, above row 0, reads as 10. A value is the rank, 2
+/// times what is on the left, and 3 times what is above:
+///
+///     (0,0)  0 + 2 *   1 + 3 *  10 =   32, both sources outside, along different dependences
+///     (0,1)  1 + 2 *  32 + 3 *  10 =   95
+///     (0,2)  2 + 2 *  95 + 3 *  10 =  222
+///     (1,0)  3 + 2 *   1 + 3 *  32 =  101
+///     (1,1)  4 + 2 * 101 + 3 *  95 =  491
+///     (1,2)  5 + 2 * 491 + 3 * 222 = 1653
+///
+/// All else is as in P2: boundary values have no part in steps, blocks and processors.
+#[test]
+fn p2_with_a_boundary_value_for_each_dependence() {
+    let with_two = P2_TEXT.replace("     1     2     3\n", "     1    10     2     3\n");
+    let expected = "     6     4     3     2     2
+     0     0     0     0    32
+     1     1     0     0    95
+     2     2     1     1   222
+     3     1     2     0   101
+     4     2     0     0   491
+     5     3     0     0  1653
+";
+    assert_eq!(listing(with_two.as_bytes()), expected);
+    let nest = text::read(with_two.as_bytes()).unwrap();
+    assert_eq!(nest.boundary_values, vec![1, 10]);
+    assert_eq!(text::write(&nest), with_two);
+}
+
+/// P2 with the long last line: its listing is P2's, and it is written again as P2.
+#[test]
+fn p2_with_equal_boundary_values_one_by_one() {
+    let long = P2_TEXT.replace("     1     2     3\n", "     1     1     2     3\n");
+    assert_eq!(listing(long.as_bytes()), P2_LISTING);
+    assert_eq!(text::write(&text::read(long.as_bytes()).unwrap()), P2_TEXT);
 }
 
 #[test]
@@ -247,6 +285,10 @@ fn refusals_come_by_number_over_the_whole_nest() {
     nest.dependences[2] = vec![1, 0];
     assert_eq!(refusal(&nest), Some(AGAINST_TIME_VECTOR));
     nest.time_vector = vec![1, 1];
+    assert_eq!(refusal(&nest), Some(WEIGHT_SPAN));
+    nest.weights[2] = 255;
+    assert_eq!(refusal(&nest), None);
+    nest.boundary_values[2] = 65536;
     assert_eq!(refusal(&nest), Some(WEIGHT_SPAN));
 }
 

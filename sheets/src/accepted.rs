@@ -2,8 +2,8 @@
 
 use second::nest::{inner_product, LoopNest};
 use second::rational::greatest_common_divisor;
-use second::text;
 
+use crate::boundary::{boundary_values, different_values, in_either_form};
 use crate::gaps::{corner, times_with_gaps};
 use crate::random::Random;
 use crate::{Case, ACCEPTED};
@@ -27,13 +27,14 @@ const ACCEPTED_KINDS: &[(&str, NestMaker)] = &[
     ("deepest, unit dependences", deepest_with_unit_dependences),
     ("large cube", large_cube),
     ("longest text", longest_text),
+    ("most dependences", most_dependences),
     ("times with gaps", times_with_gaps),
     ("full", full),
 ];
 
 pub(crate) fn accepted_case(random: &mut Random, number: u64) -> Case {
     let (kind, nest) = accepted_nest(random, number);
-    Case { family: ACCEPTED, kind: kind.into(), text: text::write(&nest).into_bytes() }
+    Case { family: ACCEPTED, kind: kind.into(), text: in_either_form(random, &nest) }
 }
 
 /// An accepted nest and its kind: all kinds come in turn, and behind them one of the corners of
@@ -157,6 +158,7 @@ pub(crate) fn nest_at(
     (time_vector, dependences): Directions,
 ) -> LoopNest {
     let weights = dependences.iter().map(|_| weight(random)).collect();
+    let boundary_values = boundary_values(random, dependences.len());
     LoopNest {
         depth: lengths.len() as i64,
         dependence_count: dependences.len() as i64,
@@ -165,7 +167,7 @@ pub(crate) fn nest_at(
         upper: lower.iter().zip(lengths).map(|(low, length)| low + length - 1).collect(),
         time_vector,
         dependences,
-        boundary_value: random.pick(&[0, 1, 7, 65535, 256, 40000]),
+        boundary_values,
         weights,
     }
 }
@@ -294,7 +296,7 @@ fn one_iteration(random: &mut Random) -> LoopNest {
     nest_at(random, &lower, &vec![1; depth], directions)
 }
 
-/// Limits, components, boundary value and weights at the ends of their spans.
+/// Limits, components, boundary values and weights at the ends of their spans.
 fn ends_of_the_spans(random: &mut Random) -> LoopNest {
     let depth = depth_from(random, 1);
     let lengths = any_lengths(random, depth, 150);
@@ -317,7 +319,7 @@ fn ends_of_the_spans(random: &mut Random) -> LoopNest {
     };
     let mut nest = nest_at(random, &lower, &lengths, directions);
     nest.cube_dimension = random.pick(&[0, 6]);
-    nest.boundary_value = random.pick(&[0, 65535]);
+    nest.boundary_values.iter_mut().for_each(|value| *value = random.pick(&[0, 65535]));
     nest.weights.iter_mut().for_each(|weight| *weight = random.pick(&[0, 255]));
     nest
 }
@@ -355,12 +357,26 @@ fn large_cube(random: &mut Random) -> LoopNest {
     nest
 }
 
-/// The greatest depth and the greatest number of dependences: no text has more bytes.
+/// The greatest depth, the greatest number of dependences, and boundary values that are not all
+/// equal: no text has more bytes.
 pub(crate) fn longest_text(random: &mut Random) -> LoopNest {
+    let mut nest = with_most_dependences(random, greatest_depth());
+    nest.boundary_values = different_values(random, nest.dependences.len());
+    nest
+}
+
+/// The greatest number of dependences, at a depth at which they are easily found.
+fn most_dependences(random: &mut Random) -> LoopNest {
+    let depth = depth_from(random, 2);
+    with_most_dependences(random, depth)
+}
+
+/// A nest of the given depth with as many dependences as there may be.
+fn with_most_dependences(random: &mut Random, depth: usize) -> LoopNest {
     let most = *LoopNest::DEPENDENCE_COUNTS.end() as usize;
-    let lengths = even_lengths(random, greatest_depth(), 60);
+    let lengths = even_lengths(random, depth, 60);
     loop {
-        let directions = directions(random, greatest_depth(), 3, most, 3, 1);
+        let directions = directions(random, depth, 3, most, 3, 1);
         if directions.1.len() == most {
             return nest_near_zero(random, &lengths, directions);
         }

@@ -3,13 +3,15 @@
 use second::text;
 
 use crate::accepted::{any_directions, depth_from, even_lengths, longest_text, nest_near_zero};
+use crate::boundary::in_either_form;
+use crate::last_line::{dependence_count, is_form, LAST_LINE_DAMAGES};
 use crate::random::Random;
 use crate::{in_turn, Case, DAMAGED};
 
 /// Makes a damaged text of a whole one.
-type Damage = fn(&mut Random, Vec<u8>) -> Vec<u8>;
+pub(crate) type Damage = fn(&mut Random, Vec<u8>) -> Vec<u8>;
 
-pub(crate) const DAMAGES: &[(&str, Damage)] = &[
+const DAMAGES: &[(&str, Damage)] = &[
     ("empty text", empty_text),
     ("no last line end", no_last_line_end),
     ("carriage returns", carriage_returns),
@@ -47,8 +49,13 @@ pub(crate) const DAMAGES: &[(&str, Damage)] = &[
     ("any bytes", any_bytes),
 ];
 
+/// All damages, those of the last line included.
+pub(crate) fn all_damages() -> Vec<(&'static str, Damage)> {
+    [DAMAGES, LAST_LINE_DAMAGES].concat()
+}
+
 pub(crate) fn damaged_case(random: &mut Random, number: u64) -> Case {
-    let (kind, damage) = in_turn(DAMAGES, number);
+    let (kind, damage) = in_turn(&all_damages(), number);
     let whole = any_text(random);
     Case { family: DAMAGED, kind: kind.into(), text: damage(random, whole) }
 }
@@ -57,17 +64,18 @@ pub(crate) fn damaged_case(random: &mut Random, number: u64) -> Case {
 /// have.
 fn any_text(random: &mut Random) -> Vec<u8> {
     if random.once_in(4) {
-        return text::write(&longest_text(random)).into_bytes();
+        let nest = longest_text(random);
+        return in_either_form(random, &nest);
     }
     let depth = depth_from(random, 1);
     let lengths = even_lengths(random, depth, 40);
     let directions = any_directions(random, depth);
     let nest = nest_near_zero(random, &lengths, directions);
-    text::write(&nest).into_bytes()
+    in_either_form(random, &nest)
 }
 
 /// The lines of a whole text, each with its line end.
-fn lines_of(text: &[u8]) -> Vec<Vec<u8>> {
+pub(crate) fn lines_of(text: &[u8]) -> Vec<Vec<u8>> {
     text.split_inclusive(|&byte| byte == text::LINE_END).map(<[u8]>::to_vec).collect()
 }
 
@@ -219,17 +227,34 @@ fn line_cut_in_two(random: &mut Random, text: Vec<u8>) -> Vec<u8> {
     })
 }
 
+/// A line with a field too many; the last line may need two to be in neither of its forms.
 fn field_too_many(random: &mut Random, text: Vec<u8>) -> Vec<u8> {
-    with_line_changed(random, text, |_, line| {
+    with_fields_changed(random, text, |line| {
         line.pop();
         line.extend(b"     1\n");
     })
 }
 
+/// A line with a field missing; the last line may have to lose two.
 fn field_missing(random: &mut Random, text: Vec<u8>) -> Vec<u8> {
-    with_line_changed(random, text, |_, line| {
+    with_fields_changed(random, text, |line| {
         line.drain(..text::COLUMNS);
     })
+}
+
+/// Changes the number of fields in one line, the last one until it is in neither of its forms.
+fn with_fields_changed(
+    random: &mut Random,
+    text: Vec<u8>,
+    change: impl Fn(&mut Vec<u8>),
+) -> Vec<u8> {
+    let mut lines = lines_of(&text);
+    let (place, m) = (any_line(random, &lines), dependence_count(&lines));
+    change(&mut lines[place]);
+    while place + 1 == lines.len() && is_form(m, lines[place].len() / text::COLUMNS) {
+        change(&mut lines[place]);
+    }
+    lines.concat()
 }
 
 fn byte_too_many(random: &mut Random, mut text: Vec<u8>) -> Vec<u8> {

@@ -5,18 +5,22 @@
 //! |---|---|
 //! | `random.rs` | numbers from a seed |
 //! | `accepted.rs` | nests that are accepted |
+//! | `boundary.rs` | their boundary values, and the two forms in which a text has them |
 //! | `gaps.rs` | those of them whose times leave out whole numbers |
 //! | `refused.rs` | nests with one refusal |
 //! | `twice.rs` | nests with two refusals or more |
 //! | `damaged.rs` | texts that are damaged |
+//! | `last_line.rs` | those of them whose last line has neither form |
 //! | `receivers.rs` | how many other blocks a block sends to, and nests where they are the most |
 //! | `feeding.rs` | how a text is given to a program and its listing taken |
 //! | `bin/compare.rs` | the comparison of a planning program with the second planner |
 
 pub mod accepted;
+pub mod boundary;
 pub mod damaged;
 pub mod feeding;
 pub mod gaps;
+pub mod last_line;
 pub mod random;
 pub mod receivers;
 pub mod refused;

@@ -2,9 +2,9 @@
 
 use second::nest::{inner_product, LoopNest};
 use second::refusal::*;
-use second::text;
 
 use crate::accepted::{any_directions, depth_from, directions, even_lengths, nest_near_zero};
+use crate::boundary::in_either_form;
 use crate::random::Random;
 use crate::{Case, REFUSED};
 
@@ -49,9 +49,16 @@ pub const SPOILERS: &[NumberedSpoiler] = &[
     (AGAINST_TIME_VECTOR, |random, nest| turn_time_vector(random, nest, -1)),
     (AGAINST_TIME_VECTOR, |_, nest| multiply(&mut nest.time_vector, -1)),
     (AGAINST_TIME_VECTOR, |_, nest| multiply(&mut nest.time_vector, 0)),
-    (WEIGHT_SPAN, |_, nest| nest.boundary_value = below(LoopNest::BOUNDARY_VALUES)),
-    (WEIGHT_SPAN, |_, nest| nest.boundary_value = above(LoopNest::BOUNDARY_VALUES)),
-    (WEIGHT_SPAN, |random, nest| nest.boundary_value = far(random)),
+    (WEIGHT_SPAN, |_, nest| nest.boundary_values.fill(below(LoopNest::BOUNDARY_VALUES))),
+    (WEIGHT_SPAN, |_, nest| nest.boundary_values.fill(above(LoopNest::BOUNDARY_VALUES))),
+    (WEIGHT_SPAN, |random, nest| nest.boundary_values.fill(far(random))),
+    (WEIGHT_SPAN, |random, nest| put_value(random, nest, below(LoopNest::BOUNDARY_VALUES))),
+    (WEIGHT_SPAN, |random, nest| put_value(random, nest, above(LoopNest::BOUNDARY_VALUES))),
+    (WEIGHT_SPAN, |random, nest| put_value_far(random, nest)),
+    (WEIGHT_SPAN, |_, nest| nest.boundary_values[0] = below(LoopNest::BOUNDARY_VALUES)),
+    (WEIGHT_SPAN, |_, nest| nest.boundary_values[0] = above(LoopNest::BOUNDARY_VALUES)),
+    (WEIGHT_SPAN, |_, nest| *last_value(nest) = below(LoopNest::BOUNDARY_VALUES)),
+    (WEIGHT_SPAN, |_, nest| *last_value(nest) = above(LoopNest::BOUNDARY_VALUES)),
     (WEIGHT_SPAN, |random, nest| put_weight(random, nest, below(LoopNest::WEIGHTS))),
     (WEIGHT_SPAN, |random, nest| put_weight(random, nest, above(LoopNest::WEIGHTS))),
 ];
@@ -70,7 +77,8 @@ pub(crate) const SPOILED_IN_LINE_ONE: std::ops::RangeInclusive<Number> =
 /// A nest with one condition met. Refusal 1 comes with the damaged texts.
 pub(crate) fn refused_case(random: &mut Random, number: u64) -> Case {
     let (refusal, nest) = refused_nest(random, number);
-    Case { family: REFUSED, kind: refusal.to_string(), text: text::write(&nest).into_bytes() }
+    let text = in_either_form(random, &nest);
+    Case { family: REFUSED, kind: refusal.to_string(), text }
 }
 
 /// A nest with one condition met, and the number of that refusal: all spoilers come in turn, and
@@ -200,6 +208,21 @@ fn put_component(random: &mut Random, nest: &mut LoopNest, component: i64) {
 fn put_component_far(random: &mut Random, nest: &mut LoopNest) {
     let component = far(random);
     put_component(random, nest, component);
+}
+
+fn put_value(random: &mut Random, nest: &mut LoopNest, value: i64) {
+    let place = random.place(nest.boundary_values.len());
+    nest.boundary_values[place] = value;
+}
+
+fn put_value_far(random: &mut Random, nest: &mut LoopNest) {
+    let value = far(random);
+    put_value(random, nest, value);
+}
+
+/// The boundary value of the last dependence.
+fn last_value(nest: &mut LoopNest) -> &mut i64 {
+    nest.boundary_values.last_mut().expect("a nest with dependences")
 }
 
 fn put_weight(random: &mut Random, nest: &mut LoopNest, weight: i64) {

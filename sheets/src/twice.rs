@@ -4,7 +4,9 @@ use second::nest::LoopNest;
 use second::refusal::*;
 use second::text;
 
-use crate::damaged::{any_bytes, carriage_returns, no_last_line_end, DAMAGES};
+use crate::boundary::in_either_form;
+use crate::damaged::{all_damages, any_bytes, carriage_returns, no_last_line_end};
+use crate::last_line::LAST_LINE_DAMAGES;
 use crate::random::Random;
 use crate::refused::{nest_to_spoil, spoil, spoiled, SPOILED_IN_LINE_ONE, SPOILERS};
 use crate::{Case, TWICE_REFUSED};
@@ -50,6 +52,11 @@ const REMAINDERS: &[(&str, Remainder)] = &[
     }),
 ];
 
+/// What stands in the place of the last line end. A field more does not make the short form of four
+/// dependences or five, which a nest to spoil has, a long one.
+const LAST_LINE_ENDS: &[&[u8]] =
+    &[b"", b" \n", b"\r\n", b"     0\n", b"\n\n", b"\n ", b"\n     0\n"];
+
 /// All that cases with two refusals have in turn.
 fn all_twice() -> Vec<Twice> {
     let spoiled = spoiled();
@@ -84,7 +91,7 @@ fn spoiled_twice(
 ) -> (String, Vec<u8>) {
     spoil(random, &mut nest, high);
     spoil(random, &mut nest, low);
-    (format!("{low} and {high}"), text::write(&nest).into_bytes())
+    (format!("{low} and {high}"), in_either_form(random, &nest))
 }
 
 fn spoiled_and_damaged(
@@ -93,9 +100,9 @@ fn spoiled_and_damaged(
     refusal: Number,
 ) -> (String, Vec<u8>) {
     spoil(random, &mut nest, refusal);
-    let (kind, damage) = random.pick(DAMAGES);
-    let text = damage(random, text::write(&nest).into_bytes());
-    (format!("{refusal} and {kind}"), text)
+    let (kind, damage) = random.pick(&all_damages());
+    let text = in_either_form(random, &nest);
+    (format!("{refusal} and {kind}"), damage(random, text))
 }
 
 fn spoiled_with_last_line(
@@ -104,11 +111,15 @@ fn spoiled_with_last_line(
     refusal: Number,
 ) -> (String, Vec<u8>) {
     spoil(random, &mut nest, refusal);
-    let mut text = text::write(&nest).into_bytes();
-    let end =
-        random.pick(&[&b""[..], b" \n", b"\r\n", b"     0\n", b"\n\n", b"\n ", b"\n     0\n"]);
-    text.pop();
-    text.extend(end);
+    let mut text = in_either_form(random, &nest);
+    if random.once_in(3) {
+        let (_, damage) = random.pick(LAST_LINE_DAMAGES);
+        text = damage(random, text);
+    } else {
+        let end = random.pick(LAST_LINE_ENDS);
+        text.pop();
+        text.extend(end);
+    }
     (format!("{refusal} and last line"), text)
 }
 
@@ -122,7 +133,7 @@ fn spoiled_in_line_one(
     let in_line_one: Vec<Number> = SPOILED_IN_LINE_ONE.collect();
     let refusal = random.pick(&in_line_one);
     spoil(random, &mut nest, refusal);
-    let mut text = text::write(&nest).into_bytes();
+    let mut text = in_either_form(random, &nest);
     let rest = text.split_off(FIRST_LINE_END);
     text.extend(remainder(random, rest));
     (format!("{refusal} and after line 1 {kind}"), text)
@@ -133,5 +144,5 @@ fn spoiled_often(random: &mut Random, mut nest: LoopNest) -> (String, Vec<u8>) {
         let (_, spoiler) = random.pick(SPOILERS);
         spoiler(random, &mut nest);
     }
-    ("several".into(), text::write(&nest).into_bytes())
+    ("several".into(), in_either_form(random, &nest))
 }

@@ -115,18 +115,6 @@ fn all_corners_of_steps_come_up() {
 }
 
 #[test]
-fn accepted_texts_are_written_as_they_were_read() {
-    let mut accepted = 0;
-    for case in cases() {
-        if let Ok(nest) = text::read(&case.text) {
-            assert_eq!(text::write(&nest).into_bytes(), case.text);
-            accepted += 1;
-        }
-    }
-    assert!(accepted > COUNT / 3);
-}
-
-#[test]
 fn every_refusal_comes_alone() {
     for (number, spoiler) in SPOILERS {
         for seed in 0..200 {
@@ -148,7 +136,7 @@ fn a_zero_time_vector_is_refused_with_11_at_each_depth() {
             assert_eq!((nest.depth, nest.time_vector.iter().all(|p| *p == 0)), (depth, true));
             assert_eq!(text::read(text::write(&nest).as_bytes()).err(), Some(11));
             // what is tested behind 11 does not come first
-            nest.boundary_value = -1;
+            nest.boundary_values.fill(-1);
             assert_eq!(nest.refusal(), Some(11));
         }
     }

@@ -1,18 +1,18 @@
-//! Loop nests to try, and the 45 numbers that a nest is lent as.
+//! Loop nests to try, and the 52 numbers that a nest is lent as.
 
 use second::nest::LoopNest;
 use second::refusal::Number;
 use sheets::Random;
 
-use crate::entry::Numbers;
+use crate::entry::{Numbers, NUMBERS};
 
 /// Where each part of a nest begins among its numbers.
 const LOWER: usize = 3;
 const UPPER: usize = 6;
 const TIME: usize = 9;
 const DEPENDENCES: usize = 12;
-const BOUNDARY: usize = 36;
-const WEIGHTS: usize = 37;
+const BOUNDARIES: usize = 36;
+const WEIGHTS: usize = 44;
 /// The numbers from one dependence to the next.
 const ROW: usize = 3;
 
@@ -24,7 +24,7 @@ const UNUSED: &[i64] = &[0, 0, 1, -1, 77, 4097, i64::MIN, i64::MAX];
 
 /// The numbers of a nest. Places that are no part of it hold anything.
 pub fn numbers_of(random: &mut Random, nest: &LoopNest) -> Numbers {
-    numbers_over([0; 45].map(|_| random.pick(UNUSED)), nest)
+    numbers_over([0; NUMBERS].map(|_| random.pick(UNUSED)), nest)
 }
 
 /// Numbers over which those of a nest are written, each at its place.
@@ -39,7 +39,7 @@ pub fn numbers_over(mut numbers: Numbers, nest: &LoopNest) -> Numbers {
     for (number, dependence) in nest.dependences.iter().enumerate() {
         put(DEPENDENCES + number * ROW, dependence);
     }
-    put(BOUNDARY, &[nest.boundary_value]);
+    put(BOUNDARIES, &nest.boundary_values);
     put(WEIGHTS, &nest.weights);
     numbers
 }
@@ -99,16 +99,12 @@ fn with_great_number(random: &mut Random) -> LoopNest {
 
 /// All numbers that are a part of a nest.
 fn number_places(nest: &mut LoopNest) -> Vec<&mut i64> {
-    let mut places = vec![
-        &mut nest.depth,
-        &mut nest.dependence_count,
-        &mut nest.cube_dimension,
-        &mut nest.boundary_value,
-    ];
+    let mut places = vec![&mut nest.depth, &mut nest.dependence_count, &mut nest.cube_dimension];
     places.extend(&mut nest.lower);
     places.extend(&mut nest.upper);
     places.extend(&mut nest.time_vector);
     places.extend(nest.dependences.iter_mut().flatten());
+    places.extend(&mut nest.boundary_values);
     places.extend(&mut nest.weights);
     places
 }

@@ -26,6 +26,8 @@ pub enum Fault {
     FirstComputeFillsTheTable,
     ValueOfUncomputedTaken,
     BoundaryValueIgnored,
+    FirstBoundaryValueForAll,
+    BoundaryValuesInTurn,
     RankLeftOutOfValue,
     ValueWrittenWhenWaiting,
     NeighbourValueWritten,
@@ -58,7 +60,10 @@ pub enum Fault {
     ShortBufferBeforeNest,
     LengthsAreIterations,
     UnusedPlacesRead,
+    UnusedBoundaryPlacesRead,
     WeightsUntested,
+    OnlyFirstBoundaryValueTested,
+    LastBoundaryValueUntested,
     NestAs32Bits,
     KindZeroComputes,
     KindsSwapped,
@@ -144,7 +149,7 @@ impl Rules {
         }
         let depth = numbers[0].clamp(0, 3) as usize;
         let count = numbers[1].clamp(0, 8) as usize;
-        let read = if self.has(UnusedPlacesRead) { 8 } else { count };
+        let read = |fault: Fault| if self.has(fault) { 8 } else { count };
         LoopNest {
             depth: numbers[0],
             dependence_count: numbers[1],
@@ -153,14 +158,17 @@ impl Rules {
             upper: numbers[6..6 + depth].to_vec(),
             time_vector: numbers[9..9 + depth].to_vec(),
             dependences: (0..count).map(|i| numbers[12 + 3 * i..][..depth].to_vec()).collect(),
-            boundary_value: numbers[36],
-            weights: numbers[37..37 + read].to_vec(),
+            boundary_values: numbers[36..][..read(UnusedBoundaryPlacesRead)].to_vec(),
+            weights: numbers[44..][..read(UnusedPlacesRead)].to_vec(),
         }
     }
 
     /// The refusal of the nest or of the buffers' lengths, if there is one.
     fn refusal(&self, nest: &LoopNest, lent: &Lent) -> Option<u8> {
-        let refusal = nest.refusal().filter(|&number| !(number == 13 && self.has(WeightsUntested)));
+        let refusal = self
+            .as_tested(nest)
+            .refusal()
+            .filter(|&number| !(number == 13 && self.has(WeightsUntested)));
         let is_short = if refusal.is_none() {
             self.is_short(nest.iteration_count() as usize, lent)
         } else {
@@ -170,6 +178,17 @@ impl Rules {
             Some(number) if !is_short => Some(number as u8),
             _ => is_short.then_some(14),
         }
+    }
+
+    /// The nest with values in span in the places that are not tested.
+    fn as_tested(&self, nest: &LoopNest) -> LoopNest {
+        let mut tested = nest.clone();
+        match (self.fault, &mut tested.boundary_values[..]) {
+            (Some(OnlyFirstBoundaryValueTested), [_, others @ ..]) => others.fill(0),
+            (Some(LastBoundaryValueUntested), [_, .., last]) => *last = 0,
+            _ => {}
+        }
+        tested
     }
 
     fn is_short(&self, count: usize, lent: &Lent) -> bool {
@@ -293,16 +312,31 @@ impl Rules {
         if rank >= known.count {
             return sum as u16;
         }
-        for (dependence, weight) in nest.dependences.iter().zip(&nest.weights) {
+        let mut outside = 0;
+        for (number, (dependence, weight)) in nest.dependences.iter().zip(&nest.weights).enumerate()
+        {
             let value = match known.source(rank, dependence) {
-                None if self.has(BoundaryValueIgnored) => 0,
-                None => nest.boundary_value,
+                None => {
+                    outside += 1;
+                    self.value_outside(&nest.boundary_values, number, outside - 1)
+                }
                 Some(source) if self.has(ValueOfUncomputedTaken) && at(lent.done, source) != 1 => 0,
                 Some(source) => at(lent.values, source).into(),
             };
             sum = (sum + weight * value) % 65536;
         }
         sum as u16
+    }
+
+    /// The value of a source outside the nest that was reached by the dependence of the given
+    /// number; so many of the iteration's sources were outside before it.
+    fn value_outside(&self, values: &[i64], number: usize, before: usize) -> i64 {
+        match self.fault {
+            Some(BoundaryValueIgnored) => 0,
+            Some(FirstBoundaryValueForAll) => values[0],
+            Some(BoundaryValuesInTurn) => values[before],
+            _ => values[number],
+        }
     }
 
     fn deliver(&self, known: &Known, rank: usize, number: usize, lent: &mut Lent) -> Answer {

@@ -54,6 +54,8 @@ fn all_kinds_of_lists_nests_and_answers_come_up() {
         assert!(span.into_iter().all(|number| report.nests[&(what, number)] >= 1), "{what}");
     }
     assert!(report.nests[&("times with gaps", 1)] >= 15);
+    assert!(report.nests[&("one boundary value", 0)] >= 15);
+    assert!(report.nests[&("one boundary value", 1)] >= 10);
     let answers = report.total().answers;
     assert!((2..=18).filter(|&number| number != 12).all(|number| answers[number] >= 20));
     assert_eq!(answers[12], 0, "12 is not used");
@@ -91,6 +93,8 @@ const FAULTS: &[Fault] = &[
     Fault::FirstComputeFillsTheTable,
     Fault::ValueOfUncomputedTaken,
     Fault::BoundaryValueIgnored,
+    Fault::FirstBoundaryValueForAll,
+    Fault::BoundaryValuesInTurn,
     Fault::RankLeftOutOfValue,
     Fault::ValueWrittenWhenWaiting,
     Fault::NeighbourValueWritten,
@@ -123,7 +127,10 @@ const FAULTS: &[Fault] = &[
     Fault::ShortBufferBeforeNest,
     Fault::LengthsAreIterations,
     Fault::UnusedPlacesRead,
+    Fault::UnusedBoundaryPlacesRead,
     Fault::WeightsUntested,
+    Fault::OnlyFirstBoundaryValueTested,
+    Fault::LastBoundaryValueUntested,
     Fault::NestAs32Bits,
     Fault::KindZeroComputes,
     Fault::KindsSwapped,

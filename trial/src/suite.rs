@@ -6,6 +6,7 @@ use second::machine::ReferenceMachine;
 use second::nest::LoopNest;
 use second::plan::Plan;
 use second::text;
+use sheets::boundary::are_equal;
 use sheets::gaps::time_count;
 use sheets::Random;
 
@@ -55,7 +56,8 @@ pub struct Tally {
 pub struct Report {
     pub tallies: BTreeMap<&'static str, Tally>,
     /// How many accepted nests there were of each depth, cube dimension and number of dependences,
-    /// and how many whose times have a gap (1) or none (0).
+    /// how many whose times have a gap (1) or none (0), and how many with one boundary value for
+    /// all dependences (1) or different ones (0).
     pub nests: BTreeMap<(&'static str, i64), u64>,
     pub differences: Vec<String>,
 }
@@ -83,6 +85,7 @@ impl Report {
             ("cube dimension", nest.cube_dimension),
             ("dependences", nest.dependence_count),
             ("times with gaps", i64::from(has_gap)),
+            ("one boundary value", i64::from(are_equal(&nest.boundary_values))),
         ];
         for key in numbers {
             *self.nests.entry(key).or_default() += 1;

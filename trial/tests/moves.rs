@@ -100,6 +100,35 @@ fn moves_on_the_nest_of_the_document() {
     );
 }
 
+/// The nest of document 01's listing with the boundary values 1 and 10, whatever stands behind them,
+/// from the first move to the last.
+#[test]
+fn a_run_with_a_boundary_value_for_each_dependence() {
+    let nest = rowlock::read(P2_WITH_TWO).expect("an accepted nest");
+    let (steps, processors) = ([0, 1, 2, 1, 2, 3], [0, 0, 1, 0, 0, 0]);
+    let moves = [
+        (Move::Compute { processor: 0 }, Made::Computed { rank: 0, value: 32 }),
+        (Move::Compute { processor: 0 }, Made::Computed { rank: 1, value: 95 }),
+        (Move::Deliver { rank: 2, dependence: 0 }, Made::Delivered { rank: 2, dependence: 0 }),
+        (Move::Compute { processor: 0 }, Made::Computed { rank: 3, value: 101 }),
+        (Move::Compute { processor: 1 }, Made::Computed { rank: 2, value: 222 }),
+        (Move::Compute { processor: 0 }, Made::Computed { rank: 4, value: 491 }),
+        (Move::Deliver { rank: 5, dependence: 1 }, Made::Delivered { rank: 5, dependence: 1 }),
+        (Move::Compute { processor: 0 }, Made::Computed { rank: 5, value: 1653 }),
+    ];
+    for junk in [[0, 0], [7, 7], [65536, 256], [i64::MIN, i64::MAX]] {
+        let nest = with_junk_behind(&nest, junk);
+        let (mut values, mut done, mut delivered) = ([9; 6], [0; 6], [0; 6]);
+        for (request, made) in moves {
+            let state = (&mut values, &mut done, &mut delivered);
+            let answer =
+                rowlock::make_move(&nest, request, &steps, &processors, state.0, state.1, state.2);
+            assert_eq!(answer, Ok(made));
+        }
+        assert_eq!((values, done, delivered), (VALUES_WITH_TWO, [1; 6], [0, 0, 1, 0, 0, 2]));
+    }
+}
+
 /// Kinds that are no move's.
 const OTHER_KINDS: [usize; 5] = [0, 3, 256, (1 << 32) + 1, usize::MAX];
 

@@ -7,6 +7,7 @@ use rowlock::{exported, Nest};
 use second::nest::LoopNest;
 use sheets::refused::zero_time_nest;
 use sheets::Random;
+use trial::entry::NUMBERS;
 
 /// Checks and inspects a nest; answers the number of its refusal and the number of iterations.
 fn inspected(nest: &Nest) -> (u8, usize) {
@@ -60,7 +61,7 @@ fn a_zero_time_vector_is_refused_with_11_at_each_depth() {
 #[test]
 fn numbers_at_the_ends_of_their_type_are_refused_by_the_first_condition() {
     for end in [i64::MIN, i64::MIN + 1, -1, i64::MAX - 1, i64::MAX] {
-        let mut nest = Nest::from([end; 45]);
+        let mut nest = Nest::from([end; NUMBERS]);
         assert_eq!(inspected(&nest), (2, 0));
         nest.depth = 3;
         assert_eq!(inspected(&nest), (3, 0));
@@ -76,10 +77,49 @@ fn numbers_at_the_ends_of_their_type_are_refused_by_the_first_condition() {
 #[test]
 fn numbers_are_a_nest_in_the_order_of_its_fields() {
     let nest = Nest::from(std::array::from_fn(|place| place as i64));
-    assert_eq!((nest.depth, nest.count, nest.cube, nest.boundary), (0, 1, 2, 36));
+    assert_eq!((nest.depth, nest.count, nest.cube), (0, 1, 2));
     assert_eq!((nest.lower, nest.upper, nest.time), ([3, 4, 5], [6, 7, 8], [9, 10, 11]));
-    assert_eq!(
-        (nest.dependences[0], nest.dependences[23], nest.weights),
-        (12, 35, [37, 38, 39, 40, 41, 42, 43, 44])
-    );
+    assert_eq!((nest.dependences[0], nest.dependences[23]), (12, 35));
+    assert_eq!(nest.boundaries, [36, 37, 38, 39, 40, 41, 42, 43]);
+    assert_eq!(nest.weights, [44, 45, 46, 47, 48, 49, 50, 51]);
+}
+
+/// One number out of span, in each place of the boundary values and of the weights: 13 in the first
+/// `count` places, the last included, and ignored behind them.
+#[test]
+fn boundary_values_and_weights_are_judged_up_to_the_last_dependence() {
+    let (mut judged, mut ignored) = (0, 0);
+    for nest in accepted(17, 150) {
+        let (whole, count) = (plain(&nest), nest.dependences.len());
+        let iterations = nest.iteration_count() as usize;
+        for place in 0..Nest::MAX_DEPENDENCES {
+            let expected = if place < count { (13, 0) } else { (0, iterations) };
+            for value in [-1, 65536, i64::MIN, i64::MAX] {
+                let mut damaged = whole;
+                damaged.boundaries[place] = value;
+                assert_eq!(inspected(&damaged), expected, "{damaged:?}");
+            }
+            for weight in [-1, 256, i64::MIN, i64::MAX] {
+                let mut damaged = whole;
+                damaged.weights[place] = weight;
+                assert_eq!(inspected(&damaged), expected, "{damaged:?}");
+            }
+            *(if place < count { &mut judged } else { &mut ignored }) += 1;
+        }
+    }
+    assert!(judged >= 300 && ignored >= 300, "{judged} {ignored}");
+}
+
+/// Both ends of the span in each place alone.
+#[test]
+fn boundary_values_at_the_ends_of_their_span_are_accepted() {
+    for nest in accepted(18, 60) {
+        for place in 0..nest.dependences.len() {
+            for value in [0, 65535] {
+                let mut whole = plain(&nest);
+                whole.boundaries[place] = value;
+                assert_eq!(inspected(&whole).0, 0, "{whole:?}");
+            }
+        }
+    }
 }

@@ -8,6 +8,7 @@ use second::listing::listing;
 use second::nest::LoopNest;
 use second::plan::Plan;
 use second::text;
+use sheets::boundary::are_equal;
 use sheets::gaps::{corners, time_count};
 use sheets::Random;
 use trial::nests;
@@ -159,6 +160,44 @@ fn accepted_nests_are_planned_where_there_is_room() {
     assert!(with_gaps >= 50, "too few to see steps that nobody works in: {with_gaps}");
     let full = nests::full(&mut random);
     compare_accepted(&mut random, &full);
+}
+
+/// The nest of document 01's listing with the boundary values 1 and 10, whatever stands behind them.
+/// All but the values is as in the document.
+#[test]
+fn a_boundary_value_for_each_dependence() {
+    let nest = rowlock::read(P2_WITH_TWO).expect("an accepted nest");
+    for junk in [[0, 0], [7, 7], [65536, 256], [i64::MIN, i64::MAX]] {
+        let (number, tables) = Tables::new([7; 4]).after_plan(&with_junk_behind(&nest, junk));
+        let expected = Tables {
+            steps: vec![0, 1, 2, 1, 2, 3, 77],
+            blocks: vec![0, 0, 1, 2, 0, 0, 77],
+            processors: vec![0, 0, 1, 0, 0, 0, 77],
+            values: over(&VALUES_WITH_TWO, &[77; 7]),
+            counts: [6, 4, 3, 2, 2],
+        };
+        assert_eq!((number, tables), (0, expected));
+        let mut values = [77; 7];
+        assert_eq!(rowlock::fill(&with_junk_behind(&nest, junk), &mut values), Ok(()));
+        assert_eq!(values[..], over(&VALUES_WITH_TWO, &[77; 7]));
+    }
+}
+
+/// Accepted nests whose boundary values are not all equal. In most of them at least two values of
+/// the table change if the first is taken for all.
+#[test]
+fn different_boundary_values_are_planned_alike() {
+    let mut random = Random::new(26);
+    let (mut different, mut shown) = (0, 0);
+    for nest in accepted(27, 300).iter().filter(|nest| !are_equal(&nest.boundary_values)) {
+        compare_accepted(&mut random, nest);
+        let mut wrong = nest.clone();
+        wrong.boundary_values.fill(nest.boundary_values[0]);
+        let pairs = Plan::new(nest).values.into_iter().zip(Plan::new(&wrong).values);
+        different += 1;
+        shown += u64::from(pairs.filter(|(value, other)| value != other).count() >= 2);
+    }
+    assert!(different >= 100 && shown >= 80, "{different} {shown}");
 }
 
 #[test]

@@ -88,7 +88,7 @@ fn every_sheet_of_examples_as_a_file_and_as_input() {
 fn the_line_where_a_malformed_sheet_stops_fitting() {
     let whole = fs::read_to_string(root().join("examples/P2.txt")).expect("a sheet");
     let changed = |from: &str, to: &str| whole.replacen(from, to, 1).into_bytes();
-    let not = |line: usize, fields: usize| {
+    let not = |line: usize, fields: &str| {
         format!("line {line} is not {fields} numbers, each right-justified in six columns")
     };
     let hint = "it has carriage returns: take them out, as with tr -d '\\r'";
@@ -96,18 +96,20 @@ fn the_line_where_a_malformed_sheet_stops_fitting() {
     let last = "     1     2     3\n";
     let cases: Vec<(Vec<u8>, String)> = vec![
         (Vec::new(), "it is empty".into()),
-        (changed(header, "     2     2    1\n"), not(1, 3)),
-        (changed(header, "     2     2     1"), not(1, 3)),
-        (changed("     0     2\n", "     0     2 \n"), not(3, 2)),
-        (changed("     1     0\n", "     1    -0\n"), not(6, 2)),
-        (changed("     1     0\n", "     1\t    0\n"), not(6, 2)),
-        (changed(last, "     1     2\n"), not(7, 3)),
+        (changed(header, "     2     2    1\n"), not(1, "3")),
+        (changed(header, "     2     2     1"), not(1, "3")),
+        (changed("     0     2\n", "     0     2 \n"), not(3, "2")),
+        (changed("     1     0\n", "     1    -0\n"), not(6, "2")),
+        (changed("     1     0\n", "     1\t    0\n"), not(6, "2")),
+        (changed(last, "     1     2\n"), not(7, "3 or 4")),
+        (changed(last, "     1     1     2     3     4\n"), not(7, "3 or 4")),
+        (changed(last, "     1     1     2    -0\n"), not(7, "3 or 4")),
         (changed(last, last.trim_end()), "line 7 does not end in a line feed".into()),
         (changed(last, ""), "line 7 is missing".into()),
         ([whole.as_bytes(), b"\n"].concat(), "line 8 is one too many".into()),
         ([whole.as_bytes(), &b"     0\n".repeat(99)].concat(), "line 8 is one too many".into()),
-        (changed("     0     1\n", "\0    0     1\n"), not(2, 2)),
-        (whole.replace('\n', "\r\n").into_bytes(), format!("{}; {hint}", not(1, 3))),
+        (changed("     0     1\n", "\0    0     1\n"), not(2, "2")),
+        (whole.replace('\n', "\r\n").into_bytes(), format!("{}; {hint}", not(1, "3"))),
     ];
     for (text, expected) in cases {
         let output = plan(&[], &text);
@@ -115,6 +117,24 @@ fn the_line_where_a_malformed_sheet_stops_fitting() {
         let said = said(&output);
         assert!(said.contains("1, MALFORMED_TEXT: "), "{said}");
         assert!(said.trim_end().ends_with(&format!("; {expected}")), "{said}");
+    }
+}
+
+/// A sheet of eight dependences in three loops, with a boundary value for each: 326 bytes, as many as
+/// a sheet can have. Then one with a byte more, and one with one boundary value for all.
+#[test]
+fn the_longest_sheet() {
+    let lines =
+        "     3     8     2\n     0     2\n     0     2\n     0     2\n     1     1     1\n";
+    let units = "     0     0     1\n     0     1     0\n     1     0     0\n     0     1     1\n";
+    let others = "     1     1     0\n     1     0     1\n     1     1     1\n     1     0     2\n";
+    let weights = "     1     2     3     4     5     6     7     8\n";
+    let values = "     9    10    11    12    13    14    15 65535";
+    let long = format!("{lines}{units}{others}{values}{weights}");
+    assert_eq!(long.len(), 326);
+    let short = format!("{lines}{units}{others}     9{weights}");
+    for text in [long.clone(), format!("{long} "), format!("{long}\n"), short] {
+        assert_planned(&plan(&[], text.as_bytes()), text.as_bytes(), &text);
     }
 }
 

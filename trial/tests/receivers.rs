@@ -14,6 +14,7 @@ use second::worked::ALL;
 use sheets::gaps::corners;
 use sheets::receivers::reaching_nest;
 use sheets::Random;
+use trial::entry::NUMBERS;
 use trial::nests;
 
 /// The library's answer: its number, and what it stored beside it. There was another number before,
@@ -130,7 +131,7 @@ fn refused_nests_have_their_numbers_and_0() {
     assert_seen(nests.iter().map(|(number, _)| *number).collect(), OF_NESTS);
 }
 
-/// Limits, cube dimension, boundary value and weights have no part in it; a nest with more
+/// Limits, cube dimension, boundary values and weights have no part in it; a nest with more
 /// iterations than there may be is refused all the same.
 #[test]
 fn the_bound_is_that_of_time_vector_and_dependences() {
@@ -139,7 +140,8 @@ fn the_bound_is_that_of_time_vector_and_dependences() {
         nest.lower.fill(-7);
         nest.upper.fill(-7);
         nest.cube_dimension = 6;
-        nest.boundary_value = 65535;
+        nest.boundary_values.fill(65535);
+        nest.boundary_values[0] = 0;
         nest.weights.fill(255);
         assert_eq!(asked(&plain(&nest)), (0, example.bound), "{}", example.name);
         nest.upper[1] = 993;
@@ -151,6 +153,6 @@ fn the_bound_is_that_of_time_vector_and_dependences() {
 #[test]
 fn numbers_at_the_ends_of_their_type_are_refused() {
     for end in [i64::MIN, i64::MIN + 1, -1, i64::MAX - 1, i64::MAX] {
-        assert_eq!(asked(&Nest::from([end; 45])), (2, 0));
+        assert_eq!(asked(&Nest::from([end; NUMBERS])), (2, 0));
     }
 }

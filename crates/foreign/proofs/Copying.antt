@@ -47,11 +47,11 @@ copied-end old at xs from n k out h c =
     c .1 ∙ ap (λ j. sets old at (part xs from j)) e
 
 -- the parts of a nest, copied one behind the other
-pub copied-nest : (s : LoopNest) (x y z v : ℤ) (a b c d e f : List ℤ) → x ≡ s .depth → y ≡ s .count → z ≡ s .cube → v ≡ s .boundary
-    → a ≡ sets (replicate 45 (pos 0)) 0 (part (x ∷ y ∷ z ∷ []) 0 3) → b ≡ sets a 3 (part (s .lower) 0 3) → c ≡ sets b 6 (part (s .upper) 0 3) → d ≡ sets c 9 (part (s .time) 0 3)
-    → e ≡ sets d 12 (part (s .dependences) 0 24) → f ≡ sets (set e 36 v) 37 (part (s .weights) 0 8) → f ≡ numbersOf s
+pub copied-nest : (s : LoopNest) (x y z : ℤ) (a b c d e f g : List ℤ) → x ≡ s .depth → y ≡ s .count → z ≡ s .cube
+    → a ≡ sets (replicate 52 (pos 0)) 0 (part (x ∷ y ∷ z ∷ []) 0 3) → b ≡ sets a 3 (part (s .lower) 0 3) → c ≡ sets b 6 (part (s .upper) 0 3) → d ≡ sets c 9 (part (s .time) 0 3)
+    → e ≡ sets d 12 (part (s .dependences) 0 24) → f ≡ sets e 36 (part (s .boundaries) 0 8) → g ≡ sets f 44 (part (s .weights) 0 8) → g ≡ numbersOf s
 unfolding part tab numbersOf
-copied-nest s x y z v a b c d e f p q r t ha hb hc hd he hf =
-    let h : e ≡ sets (sets (sets (sets (sets (replicate 45 (pos 0)) 0 (x ∷ y ∷ z ∷ [])) 3 (part (s .lower) 0 3)) 6 (part (s .upper) 0 3)) 9 (part (s .time) 0 3)) 12 (part (s .dependences) 0 24) =
-    rw (he, hd, hc, hb, ha) refl in
-    hf ∙ rw (h, p, q, r, t) refl
+copied-nest s x y z a b c d e f g p q r ha hb hc hd he hf hg =
+    let h : f ≡ sets (sets (sets (sets (sets (sets (replicate 52 (pos 0)) 0 (x ∷ y ∷ z ∷ [])) 3 (part (s .lower) 0 3)) 6 (part (s .upper) 0 3)) 9 (part (s .time) 0 3)) 12 (part (s .dependences) 0 24)) 36 (part (s .boundaries) 0 8) =
+    rw (hf, he, hd, hc, hb, ha) refl in
+    hg ∙ rw (h, p, q, r) refl

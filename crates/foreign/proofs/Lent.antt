@@ -29,12 +29,12 @@ lent-part xs a n h =
     sym (tab-list (λ i. getD xs (a + i) (pos 0)) (take n (drop a xs)) (pos 0) n (length-take-le n (drop a xs) l) (λ i b. sym (getD-take n (drop a xs) i (pos 0) b ∙ getD-drop a xs i (pos 0))))
 
 -- the nest that has the lent parts is the one that the numbers are
-pub lent-nest : (xs : List ℤ) → length xs ≡ 45
-    → nestFrom (getD xs 0 (pos 0)) (getD xs 1 (pos 0)) (getD xs 2 (pos 0)) (take 3 (drop 3 xs)) (take 3 (drop 6 xs)) (take 3 (drop 9 xs)) (take 24 (drop 12 xs)) (getD xs 36 (pos 0)) (take 8 (drop 37 xs))
+pub lent-nest : (xs : List ℤ) → length xs ≡ 52
+    → nestFrom (getD xs 0 (pos 0)) (getD xs 1 (pos 0)) (getD xs 2 (pos 0)) (take 3 (drop 3 xs)) (take 3 (drop 6 xs)) (take 3 (drop 9 xs)) (take 24 (drop 12 xs)) (take 8 (drop 36 xs)) (take 8 (drop 44 xs))
     ≡ nestIn xs
 lent-nest xs h =
-    joined-nest xs (getD xs 0 (pos 0)) (getD xs 1 (pos 0)) (getD xs 2 (pos 0)) (getD xs 36 (pos 0)) (take 3 (drop 3 xs)) (take 3 (drop 6 xs)) (take 3 (drop 9 xs)) (take 24 (drop 12 xs)) (take 8 (drop 37 xs)) refl refl refl
-    (lent-part xs 3 3 (omega arith)) (lent-part xs 6 3 (omega arith)) (lent-part xs 9 3 (omega arith)) (lent-part xs 12 24 (omega arith)) refl (lent-part xs 37 8 (omega arith))
+    joined-nest xs (getD xs 0 (pos 0)) (getD xs 1 (pos 0)) (getD xs 2 (pos 0)) (take 3 (drop 3 xs)) (take 3 (drop 6 xs)) (take 3 (drop 9 xs)) (take 24 (drop 12 xs)) (take 8 (drop 36 xs)) (take 8 (drop 44 xs)) refl refl refl
+    (lent-part xs 3 3 (omega arith)) (lent-part xs 6 3 (omega arith)) (lent-part xs 9 3 (omega arith)) (lent-part xs 12 24 (omega arith)) (lent-part xs 36 8 (omega arith)) (lent-part xs 44 8 (omega arith))
 
 -- what `source_rank` asks
 abbrev pub Asked : List ℤ → List ℤ → List ℤ → ℕ → ℕ → ℕ → ℕ → Type 0
@@ -80,15 +80,15 @@ module _ (s : LoopNest) (k i : ℕ) (few : i < countOf s) where
         (subst (λ x. Answered (s .lower) x dependences d k i j) q (subst (λ x. Answered x upper dependences d k i j) p g))))
 
 -- the parts of the nest that numbers are, and their lengths
-pub lower-lent : (xs : List ℤ) → length xs ≡ 45 → take 3 (drop 3 xs) ≡ nestIn xs .lower
+pub lower-lent : (xs : List ℤ) → length xs ≡ 52 → take 3 (drop 3 xs) ≡ nestIn xs .lower
 unfolding nestIn
 lower-lent xs h = lent-part xs 3 3 (omega arith)
 
-pub upper-lent : (xs : List ℤ) → length xs ≡ 45 → take 3 (drop 6 xs) ≡ nestIn xs .upper
+pub upper-lent : (xs : List ℤ) → length xs ≡ 52 → take 3 (drop 6 xs) ≡ nestIn xs .upper
 unfolding nestIn
 upper-lent xs h = lent-part xs 6 3 (omega arith)
 
-pub dependences-lent : (xs : List ℤ) → length xs ≡ 45 → take 24 (drop 12 xs) ≡ nestIn xs .dependences
+pub dependences-lent : (xs : List ℤ) → length xs ≡ 52 → take 24 (drop 12 xs) ≡ nestIn xs .dependences
 unfolding nestIn
 dependences-lent xs h = lent-part xs 12 24 (omega arith)
 

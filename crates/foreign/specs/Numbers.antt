@@ -33,8 +33,15 @@ timeFrom = upperFrom + maxDepth
 abbrev pub dependencesFrom : ℕ
 dependencesFrom = timeFrom + maxDepth
 
-abbrev pub boundaryAt : ℕ
-boundaryAt = dependencesFrom + maxDepth * maxDependences
+abbrev pub boundariesFrom : ℕ
+boundariesFrom = dependencesFrom + maxDepth * maxDependences
+
+abbrev pub weightsFrom : ℕ
+weightsFrom = boundariesFrom + maxDependences
+
+-- how many numbers a nest has
+abbrev pub numberCount : ℕ
+numberCount = weightsFrom + maxDependences
 
 -- the nest that numbers are, in the order of its fields
 unfoldable pub nestIn : List ℤ → LoopNest
@@ -46,8 +53,8 @@ nestIn xs = record {
   upper = part xs upperFrom maxDepth;
   time = part xs timeFrom maxDepth;
   dependences = part xs dependencesFrom (maxDepth * maxDependences);
-  boundary = getD xs boundaryAt (pos 0);
-  weights = part xs (boundaryAt + 1) maxDependences;
+  boundaries = part xs boundariesFrom maxDependences;
+  weights = part xs weightsFrom maxDependences;
 }
 
 -- the numbers of a nest, in the same order: every place of its arrays, those that
@@ -56,7 +63,8 @@ unfoldable pub numbersOf : LoopNest → List ℤ
 numbersOf s =
     (s .depth ∷ s .count ∷ s .cube ∷ [])
     ++ part (s .lower) 0 maxDepth ++ part (s .upper) 0 maxDepth ++ part (s .time) 0 maxDepth
-    ++ part (s .dependences) 0 (maxDepth * maxDependences) ++ (s .boundary ∷ part (s .weights) 0 maxDependences)
+    ++ part (s .dependences) 0 (maxDepth * maxDependences)
+    ++ part (s .boundaries) 0 maxDependences ++ part (s .weights) 0 maxDependences
 
 -- the kinds of a move, numbered as in the machine's log (document 02, U12): 1
 -- is a compute, 2 a delivery

@@ -1,12 +1,12 @@
-// A nest as 45 numbers in a row, in the order of LoopNest's fields.
+// A nest as 52 numbers in a row, in the order of LoopNest's fields.
 use nest::Inspection;
 use nest::LoopNest;
 ghost use mathlib.Core.Path.{_≡_};
 ghost use Prim.Native.Nat.{_+_, _≤_, _<_};
 ghost use lib.ListN.{length};
 ghost use lib.Seq.{sets};
-ghost use Rattle.nest.specs.Nest.{part, countOf, maxDependences};
-ghost use Rattle.foreign.specs.Numbers.{nestIn, numbersOf, boundaryAt};
+ghost use Rattle.nest.specs.Nest.{part, countOf};
+ghost use Rattle.foreign.specs.Numbers.{nestIn, numbersOf, numberCount};
 ghost use Rattle.nest.specs.Points.{pointsOf};
 ghost use Rattle.nest.specs.Refusals.{refusal, Inspects};
 ghost use Rattle.nest.specs.Sources.{IsSource};
@@ -24,9 +24,9 @@ const TIME: usize = UPPER + LoopNest::MAX_DEPTH;
 
 const DEPENDENCES: usize = TIME + LoopNest::MAX_DEPTH;
 
-const BOUNDARY: usize = DEPENDENCES + COMPONENTS;
+const BOUNDARIES: usize = DEPENDENCES + COMPONENTS;
 
-const WEIGHTS: usize = BOUNDARY + 1;
+const WEIGHTS: usize = BOUNDARIES + LoopNest::MAX_DEPENDENCES;
 
 // How many numbers a nest has.
 pub const NUMBERS: usize = WEIGHTS + LoopNest::MAX_DEPENDENCES;
@@ -42,7 +42,7 @@ fn copy(out: &mut [i64], at: usize, numbers: &[i64], from: usize, count: usize)
     }
 }
 
-// The nest that 45 numbers are.
+// The nest that 52 numbers are.
 pub fn nest_in(numbers: &[i64; NUMBERS]) -> LoopNest
     ensures { λ r. ⌜ r ≡ nestIn (now (numbers .entry)) ⌝ }
 {
@@ -54,6 +54,14 @@ pub fn nest_in(numbers: &[i64; NUMBERS]) -> LoopNest
     copy(&mut time, 0, numbers, TIME, LoopNest::MAX_DEPTH);
     let mut dependences = [0i64; COMPONENTS];
     copy(&mut dependences, 0, numbers, DEPENDENCES, COMPONENTS);
+    let mut boundaries = [0i64; LoopNest::MAX_DEPENDENCES];
+    copy(
+        &mut boundaries,
+        0,
+        numbers,
+        BOUNDARIES,
+        LoopNest::MAX_DEPENDENCES,
+    );
     let mut weights = [0i64; LoopNest::MAX_DEPENDENCES];
     copy(&mut weights, 0, numbers, WEIGHTS, LoopNest::MAX_DEPENDENCES);
     LoopNest {
@@ -64,14 +72,14 @@ pub fn nest_in(numbers: &[i64; NUMBERS]) -> LoopNest
         upper: upper,
         time: time,
         dependences: dependences,
-        boundary: numbers[BOUNDARY],
+        boundaries: boundaries,
         weights: weights,
     }
 }
 
-// `inspect` of the nest that 45 numbers are, which stays where it is.
+// `inspect` of the nest that 52 numbers are, which stays where it is.
 pub fn inspect_in(numbers: &[i64]) -> Inspection
-    requires { ⌜ length (now numbers) ≡ boundaryAt + 1 + maxDependences ⌝ }
+    requires { ⌜ length (now numbers) ≡ numberCount ⌝ }
     ensures { λ r. ⌜ Inspects (nestIn (now (numbers .entry))) r ⌝ }
 {
     nest::inspect_parts(
@@ -81,16 +89,16 @@ pub fn inspect_in(numbers: &[i64]) -> Inspection
         &numbers[LOWER..UPPER],
         &numbers[UPPER..TIME],
         &numbers[TIME..DEPENDENCES],
-        &numbers[DEPENDENCES..BOUNDARY],
-        numbers[BOUNDARY],
+        &numbers[DEPENDENCES..BOUNDARIES],
+        &numbers[BOUNDARIES..WEIGHTS],
         &numbers[WEIGHTS..NUMBERS],
     )
 }
 
 // The rank of the source of iteration k along dependence i, of the accepted nest of so many
-// iterations that 45 numbers are; their number where the source is none of them.
+// iterations that 52 numbers are; their number where the source is none of them.
 pub fn source_in(numbers: &[i64], iterations: usize, k: usize, i: usize) -> usize
-    requires { ⌜ length (now numbers) ≡ boundaryAt + 1 + maxDependences ⌝ }
+    requires { ⌜ length (now numbers) ≡ numberCount ⌝ }
     requires { ⌜ (refusal (nestIn (now numbers)) ≡ 0) × (iterations ≡ length (pointsOf (nestIn (now numbers))))
         × (k < iterations) × (i < countOf (nestIn (now numbers))) ⌝ }
     ensures { λ r. ⌜ IsSource (nestIn (now (numbers .entry))) k i r ⌝ }
@@ -99,7 +107,7 @@ pub fn source_in(numbers: &[i64], iterations: usize, k: usize, i: usize) -> usiz
     nest::source_rank(
         &numbers[LOWER..UPPER],
         &numbers[UPPER..TIME],
-        &numbers[DEPENDENCES..BOUNDARY],
+        &numbers[DEPENDENCES..BOUNDARIES],
         depth,
         iterations,
         k,
@@ -107,7 +115,7 @@ pub fn source_in(numbers: &[i64], iterations: usize, k: usize, i: usize) -> usiz
     )
 }
 
-// The 45 numbers of a nest.
+// The 52 numbers of a nest.
 pub fn numbers_of(s: LoopNest) -> [i64; NUMBERS]
     ensures { λ r. ⌜ r ≡ numbersOf s ⌝ }
 {
@@ -122,8 +130,14 @@ pub fn numbers_of(s: LoopNest) -> [i64; NUMBERS]
     copy(&mut numbers, TIME, &time, 0, LoopNest::MAX_DEPTH);
     let dependences = s.dependences;
     copy(&mut numbers, DEPENDENCES, &dependences, 0, COMPONENTS);
-    let boundary = s.boundary;
-    numbers[BOUNDARY] = boundary;
+    let boundaries = s.boundaries;
+    copy(
+        &mut numbers,
+        BOUNDARIES,
+        &boundaries,
+        0,
+        LoopNest::MAX_DEPENDENCES,
+    );
     let weights = s.weights;
     copy(
         &mut numbers,

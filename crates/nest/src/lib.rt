@@ -34,8 +34,8 @@ pub use crate::source::source_rank;
 ghost use mathlib.Core.Path.{_≡_};
 ghost use lib.IntN.{pos};
 ghost use Rattle.nest.specs.Nest.{emptyNest, withShape, withLimits, withTime, withDependence, withBoundary};
-ghost use Rattle.nest.specs.Nest.{withWeight, toℕ, maxDepth, maxDependences, maxCube, maxLimit, maxIterations};
-ghost use Rattle.nest.specs.Nest.{maxComponent, maxBoundary, maxWeight};
+ghost use Rattle.nest.specs.Nest.{withEveryBoundary, withWeight, toℕ, maxDepth, maxDependences, maxCube};
+ghost use Rattle.nest.specs.Nest.{maxLimit, maxIterations, maxComponent, maxBoundary, maxWeight};
 
 // A loop nest. Every field may hold any number; `check` says whether the nest is accepted. Of each
 // array the first `depth` or `count` places are part of the nest, and the others are ignored.
@@ -53,8 +53,9 @@ pub struct LoopNest {
     pub time: [i64; LoopNest::MAX_DEPTH],
     // component k of dependence i is at place i * MAX_DEPTH + k
     pub dependences: [i64; LoopNest::MAX_DEPTH * LoopNest::MAX_DEPENDENCES],
-    // what a source outside the index points reads as (document 01: edge value)
-    pub boundary: i64,
+    // one for each dependence: what a source outside the index points reads as that was reached by
+    // it (document 02, U1: edges)
+    pub boundaries: [i64; LoopNest::MAX_DEPENDENCES],
     // one for each dependence
     pub weights: [i64; LoopNest::MAX_DEPENDENCES],
 }
@@ -103,7 +104,7 @@ impl LoopNest {
             upper: [0; LoopNest::MAX_DEPTH],
             time: [0; LoopNest::MAX_DEPTH],
             dependences: [0; LoopNest::MAX_DEPTH * LoopNest::MAX_DEPENDENCES],
-            boundary: 0,
+            boundaries: [0; LoopNest::MAX_DEPENDENCES],
             weights: [0; LoopNest::MAX_DEPENDENCES],
         }
     }
@@ -156,12 +157,24 @@ impl LoopNest {
         s
     }
 
-    // The same nest with another boundary value.
-    pub fn with_boundary(self, boundary: i64) -> LoopNest
-        ensures { λ r. ⌜ r ≡ withBoundary self boundary ⌝ }
+    // The same nest with another boundary value of dependence i; unchanged where there is no such
+    // place.
+    pub fn with_boundary(self, i: usize, boundary: i64) -> LoopNest
+        ensures { λ r. ⌜ r ≡ withBoundary self i boundary ⌝ }
     {
         let mut s = self;
-        s.boundary = boundary;
+        if i < LoopNest::MAX_DEPENDENCES {
+            s.boundaries[i] = boundary;
+        }
+        s
+    }
+
+    // The same nest with one boundary value for every dependence.
+    pub fn with_every_boundary(self, boundary: i64) -> LoopNest
+        ensures { λ r. ⌜ r ≡ withEveryBoundary self boundary ⌝ }
+    {
+        let mut s = self;
+        s.boundaries = [boundary; LoopNest::MAX_DEPENDENCES];
         s
     }
 

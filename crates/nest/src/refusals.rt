@@ -41,14 +41,14 @@ pub const EQUAL_DEPENDENCES: u8 = 10;
 // against the clock: P·d below 1 for a dependence
 pub const AGAINST_TIME: u8 = 11;
 // 12 is not used: a time vector that is zero has P·d below 1 for every dependence, which is 11
-// weight span: the boundary value or a weight out of span
+// weight span: a boundary value or a weight out of span
 pub const BAD_WEIGHT: u8 = 13;
 // short tray: a lent buffer has fewer entries than are needed
 pub const SHORT_BUFFER: u8 = 14;
 
 // The first refusal of line 1: 2, 3 or 4, or 0.
 pub fn check_header(depth: i64, count: i64, cube: i64) -> u8
-    ensures { λ r. ⌜ r ≡ firstMet (nestFrom depth count cube [] [] [] [] (pos 0) []) headerOrder ⌝ }
+    ensures { λ r. ⌜ r ≡ firstMet (nestFrom depth count cube [] [] [] [] [] []) headerOrder ⌝ }
 {
     if is_outside(1, LoopNest::MAX_DEPTH as i64, depth) {
         return BAD_DEPTH;
@@ -66,7 +66,7 @@ pub fn check_header(depth: i64, count: i64, cube: i64) -> u8
 fn check_limits(lower: &[i64], upper: &[i64], n: usize) -> u8
     requires { ⌜ (n ≤ maxDepth) × (n ≤ length (now lower)) × (n ≤ length (now upper)) ⌝ }
     ensures { λ r. ⌜ r ≡ firstMet
-        (nestFrom (pos n) (pos 0) (pos 0) (now (lower .entry)) (now (upper .entry)) [] [] (pos 0) []) limitOrder ⌝ }
+        (nestFrom (pos n) (pos 0) (pos 0) (now (lower .entry)) (now (upper .entry)) [] [] [] []) limitOrder ⌝ }
 {
     if any_crossed(lower, upper, n) {
         return BAD_LIMITS;
@@ -82,7 +82,7 @@ fn check_vectors(time: &[i64], dependences: &[i64], n: usize, m: usize) -> u8
     requires { ⌜ (n ≤ maxDepth) × (n ≤ length (now time)) × (m * maxDepth ≤ length (now dependences)) ⌝ }
     ensures { λ r. ⌜ r ≡ firstMet
         (nestFrom (pos n) (pos m) (pos 0) [] [] (now (time .entry)) (now (dependences .entry))
-        (pos 0) []) vectorOrder ⌝ }
+        [] []) vectorOrder ⌝ }
 {
     if any_outside(
         time,
@@ -109,12 +109,12 @@ fn check_vectors(time: &[i64], dependences: &[i64], n: usize, m: usize) -> u8
 }
 
 // The refusal 13, of m dependences, or 0.
-fn check_weights(boundary: i64, weights: &[i64], m: usize) -> u8
-    requires { ⌜ m ≤ length (now weights) ⌝ }
+fn check_weights(boundaries: &[i64], weights: &[i64], m: usize) -> u8
+    requires { ⌜ (m ≤ length (now boundaries)) × (m ≤ length (now weights)) ⌝ }
     ensures { λ r. ⌜ r ≡ firstMet
-        (nestFrom (pos 0) (pos m) (pos 0) [] [] [] [] boundary (now (weights .entry))) weightOrder ⌝ }
+        (nestFrom (pos 0) (pos m) (pos 0) [] [] [] [] (now (boundaries .entry)) (now (weights .entry))) weightOrder ⌝ }
 {
-    if is_outside(0, LoopNest::MAX_BOUNDARY, boundary) {
+    if any_outside(boundaries, 0, m, 0, LoopNest::MAX_BOUNDARY) {
         return BAD_WEIGHT;
     }
     if any_outside(weights, 0, m, 0, LoopNest::MAX_WEIGHT) {
@@ -132,13 +132,13 @@ fn check_parts<'a>(
     upper: &'a [i64],
     time: &'a [i64],
     dependences: &'a [i64],
-    boundary: i64,
+    boundaries: &'a [i64],
     weights: &'a [i64],
 ) -> u8
-    requires { ⌜ Sized (now lower) (now upper) (now time) (now dependences) (now weights) ⌝ }
+    requires { ⌜ Sized (now lower) (now upper) (now time) (now dependences) (now boundaries) (now weights) ⌝ }
     ensures { λ r. ⌜ r ≡ refusal
         (nestFrom depth count cube (now (lower .entry)) (now (upper .entry)) (now (time .entry))
-        (now (dependences .entry)) boundary (now (weights .entry))) ⌝ }
+        (now (dependences .entry)) (now (boundaries .entry)) (now (weights .entry))) ⌝ }
 {
     let header = check_header(depth, count, cube);
     if header != 0 {
@@ -154,7 +154,7 @@ fn check_parts<'a>(
     if vectors != 0 {
         return vectors;
     }
-    check_weights(boundary, weights, m)
+    check_weights(boundaries, weights, m)
 }
 
 // The number of the first refusal, 2 to 13 in the document's order, of a nest with any
@@ -162,7 +162,6 @@ fn check_parts<'a>(
 pub fn check(s: LoopNest) -> u8
     ensures { λ r. ⌜ Checks s r ⌝ }
 {
-    let boundary = s.boundary;
     check_parts(
         s.depth,
         s.count,
@@ -171,7 +170,7 @@ pub fn check(s: LoopNest) -> u8
         &s.upper,
         &s.time,
         &s.dependences,
-        boundary,
+        &s.boundaries,
         &s.weights,
     )
 }
@@ -185,13 +184,13 @@ pub fn inspect_parts<'a>(
     upper: &'a [i64],
     time: &'a [i64],
     dependences: &'a [i64],
-    boundary: i64,
+    boundaries: &'a [i64],
     weights: &'a [i64],
 ) -> Inspection
-    requires { ⌜ Sized (now lower) (now upper) (now time) (now dependences) (now weights) ⌝ }
+    requires { ⌜ Sized (now lower) (now upper) (now time) (now dependences) (now boundaries) (now weights) ⌝ }
     ensures { λ r. ⌜ Inspects
         (nestFrom depth count cube (now (lower .entry)) (now (upper .entry)) (now (time .entry))
-        (now (dependences .entry)) boundary (now (weights .entry))) r ⌝ }
+        (now (dependences .entry)) (now (boundaries .entry)) (now (weights .entry))) r ⌝ }
 {
     let refusal = check_parts(
         depth,
@@ -201,7 +200,7 @@ pub fn inspect_parts<'a>(
         upper,
         time,
         dependences,
-        boundary,
+        boundaries,
         weights,
     );
     if refusal != 0 {
@@ -221,7 +220,6 @@ pub fn inspect_parts<'a>(
 pub fn inspect(s: LoopNest) -> Inspection
     ensures { λ r. ⌜ Inspects s r ⌝ }
 {
-    let boundary = s.boundary;
     inspect_parts(
         s.depth,
         s.count,
@@ -230,7 +228,7 @@ pub fn inspect(s: LoopNest) -> Inspection
         &s.upper,
         &s.time,
         &s.dependences,
-        boundary,
+        &s.boundaries,
         &s.weights,
     )
 }

@@ -20,11 +20,11 @@ use Rattle.nest_text.specs.declared.reader.Line.{Line}
 use Rattle.nest_text.specs.declared.reader.Body.{Body}
 use Rattle.nest_text.specs.Fields.{Bytes, columns, newline}
 use Rattle.nest_text.specs.Text.{at, isMalformed, fieldAt, isLine, numbersOf, behind, areLines}
-use Rattle.nest_text.specs.Text.{lineNumbers, widths, shapes, fits, nestFrom}
-use Rattle.nest_text.specs.Reader.{maxFields, lineOf, withLine, filled, bodyRead}
+use Rattle.nest_text.specs.Text.{lineNumbers, widths, shapes, fits, firstFitting, nestFrom}
+use Rattle.nest_text.specs.Reader.{maxFields, lineOf, lastWidth, withLine, filled, bodyRead}
 use Rattle.nest_text.proofs.FieldLaws.{rest-part}
 use Rattle.nest_text.proofs.LineLaws.{numbers-length}
-use Rattle.nest_text.proofs.ShapeLaws.{shapes-one, shapes-first}
+use Rattle.nest_text.proofs.LastLine.{line-inside, shapes-one, shapes-first}
 use Rattle.nest_text.proofs.RowLaws.{width-vector, width-last, limits-line, time-line, dependence-line}
 use Rattle.nest_text.proofs.RowLaws.{last-line}
 use Rattle.nest_text.proofs.FillLaws.{same-nest, filled-limit, filled-time, filled-dependence, filled-last}
@@ -45,15 +45,6 @@ module _ (k : ℕ) (bs : Bytes) where
   line-numbers : isLine k bs ≡ true → lineOf k bs .numbers ≡ padded maxFields (numbersOf k bs)
   unfolding lineOf
   line-numbers e = rw (e, lineOf) refl
-
-  -- a line in form is all there
-  pub line-inside : isLine k bs ≡ true → columns * k < length bs
-  unfolding isLine
-  line-inside e =
-      let q = eqb-true (getD bs (columns * k) 0) newline (and-true (not (any isMalformed (tab (fieldAt bs) k))) (eqb (getD bs (columns * k) 0) newline) e .1) in
-      split (leb (length bs) (columns * k))
-      (λ t. absurd (omega (arith, List·getD-eq-default bs 0 {n = columns * k} (leb-true (length bs) (columns * k) t))))
-      (λ t. leb-false (length bs) (columns * k) t)
 
   -- the answer, where the line is in form and where it is not
   pub answered : (l : Line) → l ≡ lineOf k bs → l .ok ≡ true → (isLine k bs ≡ true) × (l .numbers ≡ padded maxFields (numbersOf k bs))
@@ -101,52 +92,53 @@ unfolding areLines
 lines-none bs = refl
 
 -- how many lines follow line 1
-pub length-widths : (n m : ℕ) → length (widths n m) ≡ n + 1 + m + 1
+pub length-widths : (n m k : ℕ) → length (widths n m k) ≡ n + 1 + m + 1
 unfolding widths
-length-widths n m = simp (length-append, length-replicate) (omega arith)
+length-widths n m k = simp (length-append, length-replicate) (omega arith)
 
 -- ---- the lines behind line 1
 
--- i lines are read, they end at place `at`, and s holds their numbers
-pub record Reached (n m : ℕ) (c : ℤ) (bs : Bytes) (i at : ℕ) (s : LoopNest) : Type 0 where
+-- i lines are read, of which the last of all has w fields; they end at place `at`, and s holds their
+-- numbers
+pub record Reached (n m w : ℕ) (c : ℤ) (bs : Bytes) (i at : ℕ) (s : LoopNest) : Type 0 where
   pub most : i ≤ n + 1 + m + 1
   pub inside : at ≤ length bs
-  pub form : areLines (widths n m) bs ≡ areLines (drop i (widths n m)) (drop at bs)
-  pub rest : drop i (lineNumbers (widths n m) bs) ≡ lineNumbers (drop i (widths n m)) (drop at bs)
-  pub held : s ≡ filled n m c (take i (lineNumbers (widths n m) bs))
+  pub form : areLines (widths n m w) bs ≡ areLines (drop i (widths n m w)) (drop at bs)
+  pub rest : drop i (lineNumbers (widths n m w) bs) ≡ lineNumbers (drop i (widths n m w)) (drop at bs)
+  pub held : s ≡ filled n m c (take i (lineNumbers (widths n m w) bs))
 
 -- the limits that a line says
 abbrev limitOf : List ℤ → Limit
 limitOf l = record { lower = at l 0; upper = at l 1 }
 
 -- the numbers of line i, of any kind, in their places
-module _ (n m : ℕ) (c : ℤ) (ls : List (List ℤ)) (zs : List ℤ) (i : ℕ) (e : length ls ≡ i) (low : n ≤ maxDepth) (few : m ≤ maxDependences) (l : length zs ≡ getD (widths n m) i 0) where
+module _ (n m w : ℕ) (c : ℤ) (ls : List (List ℤ)) (zs : List ℤ) (i : ℕ) (e : length ls ≡ i) (low : n ≤ maxDepth) (few : m ≤ maxDependences) (least : m ≤ w) (most : w ≤ m + maxDependences) (l : length zs ≡ getD (widths n m w) i 0) where
   -- what is shown of each kind
   abbrev Placed : Type 0
-  Placed = filled n m c (ls ++ (zs ∷ [])) ≡ withLine n m (filled n m c ls) i (padded maxFields zs)
+  Placed = filled n m c (ls ++ (zs ∷ [])) ≡ withLine n m w (filled n m c ls) i (padded maxFields zs)
 
   -- a line of limits
   limits-placed : i < n → Placed
-  limits-placed p = filled-limit n m c ls zs i e low few p ∙ limits-line n m i (filled n m c ls) (padded maxFields zs) p
+  limits-placed p = filled-limit n m c ls zs i e low few p ∙ limits-line n m w i (filled n m c ls) (padded maxFields zs) p
 
   -- a vector has n numbers
   vector-length : n ≤ i → i ≤ n + m → length zs ≡ n
-  vector-length p u = l ∙ (ap (λ (k : ℕ). getD (widths n m) k 0) (omega arith) ∙ width-vector n m (i - n) (omega arith))
+  vector-length p u = l ∙ (ap (λ (k : ℕ). getD (widths n m w) k 0) (omega arith) ∙ width-vector n m w (i - n) (omega arith))
 
   -- the time vector
   time-placed : i ≡ n → Placed
-  time-placed p = filled-time n m c ls zs i e low few p (vector-length (omega arith) (omega arith)) ∙ time-line n m i (filled n m c ls) (padded maxFields zs) p
+  time-placed p = filled-time n m c ls zs i e low few p (vector-length (omega arith) (omega arith)) ∙ time-line n m w i (filled n m c ls) (padded maxFields zs) p
 
   -- a dependence
   dependence-placed : n < i → i ≤ n + m → ((j : ℕ) → n < j → length (getD ls j []) ≤ maxDepth) → Placed
-  dependence-placed p u narrow = filled-dependence n m c ls zs i e low few p u (vector-length (omega arith) u) narrow ∙ dependence-line n m i (filled n m c ls) (padded maxFields zs) p u
+  dependence-placed p u narrow = filled-dependence n m c ls zs i e low few p u (vector-length (omega arith) u) narrow ∙ dependence-line n m w i (filled n m c ls) (padded maxFields zs) p u
 
-  -- the boundary value and the weights
+  -- the boundary values and the weights
   last-placed : n + m < i → i < n + 1 + m + 1 → Placed
   last-placed u h =
       let z : i ≡ n + 1 + m = omega arith in
-      let w : length zs ≡ 1 + m = l ∙ (ap (λ (k : ℕ). getD (widths n m) k 0) (omega arith) ∙ width-last n m) in
-      filled-last n m c ls zs i e low few z w ∙ last-line n m i (filled n m c ls) (padded maxFields zs) u
+      let wide : length zs ≡ w = l ∙ (ap (λ (k : ℕ). getD (widths n m w) k 0) (omega arith) ∙ width-last n m w) in
+      filled-last n m c ls zs i e low few w z wide least most ∙ last-line n m w i (filled n m c ls) (padded maxFields zs) u
 
   -- any of them
   line-placed : i < n + 1 + m + 1 → ((j : ℕ) → n < j → i ≤ n + m → length (getD ls j []) ≤ maxDepth) → Placed
@@ -160,22 +152,22 @@ module _ (n m : ℕ) (c : ℤ) (ls : List (List ℤ)) (zs : List ℤ) (i : ℕ) 
       last : leb i (n + m) ≡ false → Placed
       last t = last-placed (leb-false i (n + m) t) h
 
-module _ (n m : ℕ) (c : ℤ) (bs : Bytes) (low : n ≤ maxDepth) (few : m ≤ maxDependences) where
+module _ (n m w : ℕ) (c : ℤ) (bs : Bytes) (low : n ≤ maxDepth) (few : m ≤ maxDependences) (least : m ≤ w) (limit : w ≤ m + maxDependences) where
   -- the widths of the lines
   abbrev ks : List ℕ
-  ks = widths n m
+  ks = widths n m w
 
   -- the numbers of all lines
   abbrev all : List (List ℤ)
-  all = lineNumbers (widths n m) bs
+  all = lineNumbers (widths n m w) bs
 
   -- before the first line
-  pub reached-start : (s : LoopNest) → s ≡ filled n m c [] → Reached n m c bs 0 0 s
+  pub reached-start : (s : LoopNest) → s ≡ filled n m c [] → Reached n m w c bs 0 0 s
   reached-start s e = record { most = omega arith; inside = omega arith; form = refl; rest = refl; held = e }
 
   -- how many lines there are
   long : length all ≡ n + 1 + m + 1
-  long = length-lines ks bs ∙ length-widths n m
+  long = length-lines ks bs ∙ length-widths n m w
 
   -- the rows before line i, up to the last dependence
   narrow : (i : ℕ) → (j : ℕ) → n < j → i ≤ n + m → length (getD (take i all) j []) ≤ maxDepth
@@ -183,7 +175,7 @@ module _ (n m : ℕ) (c : ℤ) (bs : Bytes) (low : n ≤ maxDepth) (few : m ≤ 
     where
       there : j < i → length (getD (take i all) j []) ≤ maxDepth
       there p =
-          let w : length (getD all j []) ≡ n = row-length ks bs j ∙ (ap (λ (k : ℕ). getD (widths n m) k 0) (omega arith) ∙ width-vector n m (j - n) (omega arith)) in
+          let wide : length (getD all j []) ≡ n = row-length ks bs j ∙ (ap (λ (k : ℕ). getD (widths n m w) k 0) (omega arith) ∙ width-vector n m w (j - n) (omega arith)) in
           rw (getD-take i all j [] p) (omega arith)
 
       past : i ≤ j → length (getD (take i all) j []) ≤ maxDepth
@@ -191,10 +183,10 @@ module _ (n m : ℕ) (c : ℤ) (bs : Bytes) (low : n ≤ maxDepth) (few : m ≤ 
           let none : length (take i all) ≤ j = simp length-take (omega arith) in
           rw (List·getD-eq-default (take i all) [] {n = j} none) (omega arith)
 
-  module _ (i p : ℕ) (s : LoopNest) (r : Reached n m c bs i p s) (h : i < n + 1 + m + 1) where
+  module _ (i p : ℕ) (s : LoopNest) (r : Reached n m w c bs i p s) (h : i < n + 1 + m + 1) where
     -- the width of line i
     abbrev k : ℕ
-    k = getD (widths n m) i 0
+    k = getD (widths n m w) i 0
 
     -- and those behind it
     widths-on : drop i ks ≡ k ∷ drop (i + 1) ks
@@ -211,12 +203,12 @@ module _ (n m : ℕ) (c : ℤ) (bs : Bytes) (low : n ≤ maxDepth) (few : m ≤ 
         ap (λ (j : ℕ). getD all j []) z ∙ (sym (getD-drop i all 0 []) ∙ ap (λ (l : List (List ℤ)). getD l 0 []) rest-on)
 
     -- a malformed line
-    pub reached-malformed : isLine k (drop p bs) ≡ false → areLines (widths n m) bs ≡ false
+    pub reached-malformed : isLine k (drop p bs) ≡ false → areLines (widths n m w) bs ≡ false
     reached-malformed e = r .form ∙ (ap (λ (l : List ℕ). areLines l (drop p bs)) widths-on ∙ lines-off k (drop (i + 1) ks) (drop p bs) e)
 
     -- one line more
-    pub reached-more : (t : LoopNest) → isLine k (drop p bs) ≡ true → t ≡ withLine n m s i (padded maxFields (numbersOf k (drop p bs)))
-        → Reached n m c bs (i + 1) (p + (columns * k + 1)) t
+    pub reached-more : (t : LoopNest) → isLine k (drop p bs) ≡ true → t ≡ withLine n m w s i (padded maxFields (numbersOf k (drop p bs)))
+        → Reached n m w c bs (i + 1) (p + (columns * k + 1)) t
     reached-more t e f =
         let on = line-inside k (drop p bs) e in
         let room : columns * k < length bs - p = rw length-drop at on in
@@ -229,26 +221,26 @@ module _ (n m : ℕ) (c : ℤ) (bs : Bytes) (low : n ≤ maxDepth) (few : m ≤ 
           rest = sym (drop-drop 1 i all) ∙ (ap (drop 1) rest-on ∙ ap (lineNumbers (drop (i + 1) ks)) far);
           held =
               f
-              ∙ (ap (λ (x : LoopNest). withLine n m x i (padded maxFields (numbersOf k (drop p bs)))) (r .held)
-              ∙ (sym (line-placed n m c (take i all) (numbersOf k (drop p bs)) i (length-take-le i all (rw long (omega arith))) low few (numbers-length k (drop p bs)) h (narrow i))
+              ∙ (ap (λ (x : LoopNest). withLine n m w x i (padded maxFields (numbersOf k (drop p bs)))) (r .held)
+              ∙ (sym (line-placed n m w c (take i all) (numbersOf k (drop p bs)) i (length-take-le i all (rw long (omega arith))) low few least limit (numbers-length k (drop p bs)) h (narrow i))
               ∙ ap (filled n m c) (sym more)));
         }
 
-    -- the same by what the line reader answered for a line of w fields
-    module _ (w : ℕ) (l : Line) (wide : w ≡ getD (widths n m) i 0) (read : l ≡ lineOf w (take (length bs - p) (drop p bs))) where
+    -- the same by what the line reader answered for a line of v fields
+    module _ (v : ℕ) (l : Line) (wide : v ≡ getD (widths n m w) i 0) (read : l ≡ lineOf v (take (length bs - p) (drop p bs))) where
       -- what was read is line i
       read-here : l ≡ lineOf k (drop p bs)
       read-here = read ∙ (rw (rest-part bs p, wide) refl)
 
       -- the answer for a malformed line
-      pub turn-malformed : l .ok ≡ false → areLines (widths n m) bs ≡ false
+      pub turn-malformed : l .ok ≡ false → areLines (widths n m w) bs ≡ false
       turn-malformed o = reached-malformed (unanswered k (drop p bs) l read-here o)
 
       -- the state after a line in form
-      pub turn-more : (t : LoopNest) → l .ok ≡ true → t ≡ withLine n m s i (l .numbers) → Reached n m c bs (i + 1) (p + (columns * w + 1)) t
+      pub turn-more : (t : LoopNest) → l .ok ≡ true → t ≡ withLine n m w s i (l .numbers) → Reached n m w c bs (i + 1) (p + (columns * v + 1)) t
       turn-more t o e =
           let a = answered k (drop p bs) l read-here o in
-          rw wide (reached-more t (a .0) (e ∙ ap (withLine n m s i) (a .1)))
+          rw wide (reached-more t (a .0) (e ∙ ap (withLine n m w s i) (a .1)))
 
   -- ---- the end
 
@@ -267,30 +259,31 @@ module _ (n m : ℕ) (c : ℤ) (bs : Bytes) (low : n ≤ maxDepth) (few : m ≤ 
       refl
       refl
 
-  module _ (i p : ℕ) (s : LoopNest) (r : Reached n m c bs i p s) (h : n + 1 + m + 1 ≤ i) where
+  module _ (i p : ℕ) (s : LoopNest) (r : Reached n m w c bs i p s) (h : n + 1 + m + 1 ≤ i) where
     -- all lines are read
     end-is : i ≡ n + 1 + m + 1
     end-is = let a = r .most in omega arith
 
     -- the form is kept if nothing follows
-    form-end : areLines (widths n m) bs ≡ eqb (length bs - p) 0
+    form-end : areLines (widths n m w) bs ≡ eqb (length bs - p) 0
     form-end =
-        let none : drop i ks ≡ [] = ap (λ (j : ℕ). drop j ks) (end-is ∙ sym (length-widths n m)) ∙ drop-length ks in
+        let none : drop i ks ≡ [] = ap (λ (j : ℕ). drop j ks) (end-is ∙ sym (length-widths n m w)) ∙ drop-length ks in
         r .form ∙ (ap (λ (l : List ℕ). areLines l (drop p bs)) none ∙ (lines-none (drop p bs) ∙ ap (λ (j : ℕ). eqb j 0) (length-drop p bs)))
 
     -- bytes behind the last line
-    pub body-trailing : (p ≡ length bs → ⊥) → areLines (widths n m) bs ≡ false
+    pub body-trailing : (p ≡ length bs → ⊥) → areLines (widths n m w) bs ≡ false
     body-trailing e = form-end ∙ ne-eqb (length bs - p) 0 (λ z. e (let a = r .inside in omega arith))
 
     -- nothing follows the last line
-    pub body-whole : p ≡ length bs → _≡_ {A = Body} (record { ok = true; nest = s }) (bodyRead n m c bs)
+    pub body-whole : w ≡ lastWidth n m (length bs) → p ≡ length bs → _≡_ {A = Body} (record { ok = true; nest = s }) (bodyRead n m c bs)
     unfolding bodyRead
-    body-whole e =
-        let f : fits (shapes n m) bs ≡ true = shapes-one n m bs ∙ (form-end ∙ eq-eqb (length bs - p) 0 (omega arith)) in
+    body-whole told e =
+        let f : fits (shapes n m) bs ≡ true = shapes-one n m bs ∙ (ap (λ j. areLines (widths n m j) bs) (sym told) ∙ (form-end ∙ eq-eqb (length bs - p) 0 (omega arith))) in
         let g : s ≡ nestFrom n m c all = r .held ∙ (ap (filled n m c) (take-all i all (rw long h)) ∙ filled-nest) in
-        rw (f, g, shapes-first n m bs f, bodyRead) refl
+        let shape : firstFitting (shapes n m) bs ≡ widths n m w = shapes-first n m bs f ∙ ap (widths n m) (sym told) in
+        rw (f, g, shape, bodyRead) refl
 
   -- a body that is not in form
-  pub body-malformed : areLines (widths n m) bs ≡ false → _≡_ {A = Body} (record { ok = false; nest = emptyNest }) (bodyRead n m c bs)
+  pub body-malformed : w ≡ lastWidth n m (length bs) → areLines (widths n m w) bs ≡ false → _≡_ {A = Body} (record { ok = false; nest = emptyNest }) (bodyRead n m c bs)
   unfolding bodyRead
-  body-malformed e = rw (shapes-one n m bs ∙ e, bodyRead) refl
+  body-malformed told e = rw (shapes-one n m bs ∙ (ap (λ j. areLines (widths n m j) bs) (sym told) ∙ e), bodyRead) refl

@@ -1,25 +1,28 @@
 -- The nest as it is filled: one line more, by the kind of the line.
 -- Assumes nothing.
-use mathlib.Core.Path.{_≡_, refl, sym, ap, _∙_}
+use mathlib.Core.Path.{_≡_, refl, sym, ap, ap₂, _∙_}
 use mathlib.Core.List.{List, [], _∷_, _++_, map, flatMap, map-append, append-assoc, append-nil}
 use Prim.Native.Nat.{ℕ, zero, suc, _+_, _*_, _-_, _≤_, _<_}
 use native.Mathlib.Omega.{arith}
-use lib.IntN.{ℤ}
-use lib.ListN.{length, getD, set, take, drop, length-append, length-drop, length-map, drop-of-length-le}
+use lib.IntN.{ℤ, pos}
+use lib.ListN.{length, getD, set, take, drop, replicate, length-append, length-drop, length-map, drop-of-length-le}
+use lib.ListN.{List·getD-eq-default}
 use lib.Seq.{getD-drop, take-all, take-append-le, drop-append-le, getD-at}
 use Rattle.nest.specs.declared.LoopNest.{LoopNest}
 use Rattle.nest.specs.Nest.{padded, maxDepth, maxDependences}
-use Rattle.nest_text.specs.Text.{at}
-use Rattle.nest_text.specs.Reader.{maxFields, withLimitLine, withTimeLine, withDependenceLine, withLastLine}
-use Rattle.nest_text.specs.Reader.{filled}
-use Rattle.nest.proofs.Padding.{padded-set, take-padded, padded-row, length-padded, at-padded, drop-padded}
+use Rattle.nest_text.specs.Text.{at, boundariesIn, weightsIn}
+use Rattle.nest_text.specs.Reader.{maxFields, withLimitLine, withTimeLine, withDependenceLine, withBoundaryLine}
+use Rattle.nest_text.specs.Reader.{withLastLine, filled}
+use Rattle.nest.proofs.Padding.{padded-none, padded-set, take-padded, padded-row, length-padded, at-padded, drop-padded}
+use Rattle.nest.proofs.Padding.{drop-zeros}
+use Rattle.nest_text.proofs.LastLine.{boundaries-none, boundaries-count, boundaries-padded}
 
 -- two nests with the same parts
-pub same-nest : (c : ℤ) {n n′ m m′ b b′ : ℤ} {l l′ u u′ t t′ d d′ w w′ : List ℤ} → n ≡ n′ → m ≡ m′ → l ≡ l′ → u ≡ u′ → t ≡ t′ → d ≡ d′ → b ≡ b′ → w ≡ w′
+pub same-nest : (c : ℤ) {n n′ m m′ : ℤ} {l l′ u u′ t t′ d d′ b b′ w w′ : List ℤ} → n ≡ n′ → m ≡ m′ → l ≡ l′ → u ≡ u′ → t ≡ t′ → d ≡ d′ → b ≡ b′ → w ≡ w′
     → _≡_ {A = LoopNest}
-    (record { depth = n; count = m; cube = c; lower = l; upper = u; time = t; dependences = d; boundary = b; weights = w })
-    (record { depth = n′; count = m′; cube = c; lower = l′; upper = u′; time = t′; dependences = d′; boundary = b′; weights = w′ })
-same-nest c n m l u t d b w = λ i. record { depth = n i; count = m i; cube = c; lower = l i; upper = u i; time = t i; dependences = d i; boundary = b i; weights = w i }
+    (record { depth = n; count = m; cube = c; lower = l; upper = u; time = t; dependences = d; boundaries = b; weights = w })
+    (record { depth = n′; count = m′; cube = c; lower = l′; upper = u′; time = t′; dependences = d′; boundaries = b′; weights = w′ })
+same-nest c n m l u t d b w = λ i. record { depth = n i; count = m i; cube = c; lower = l i; upper = u i; time = t i; dependences = d i; boundaries = b i; weights = w i }
 
 -- ---- a list with one element more
 module _ {A : Type 0} where
@@ -58,6 +61,11 @@ flat-length n (d ∷ ds) h =
   where
     rows : (k : ℕ) → n + k * n ≡ suc k * n
     rows k = omega arith
+
+-- m numbers and the zeros behind them
+padded-by : (n m : ℕ) (xs : List ℤ) → length xs ≡ m → padded n xs ≡ xs ++ replicate (n - m) (pos 0)
+unfolding padded
+padded-by n m xs e = ap (λ j. xs ++ replicate (n - j) (pos 0)) e
 
 -- ---- one line more
 module _ (n m : ℕ) (c : ℤ) (ls : List (List ℤ)) (zs : List ℤ) (i : ℕ) (count : length ls ≡ i) (low : n ≤ maxDepth) (few : m ≤ maxDependences) where
@@ -118,8 +126,8 @@ module _ (n m : ℕ) (c : ℤ) (ls : List (List ℤ)) (zs : List ℤ) (i : ℕ) 
       same-nest c refl refl (limits-more 0 h) (limits-more 1 h)
       (ap (padded maxDepth) (line-same n (λ e. absurd (omega arith))))
       (ap (λ (l : List (List ℤ)). padded (maxDepth * maxDependences) (flatMap (padded maxDepth) l)) (dependences-before (omega arith)))
-      (ap (λ (l : List ℤ). at l 0) (line-same (n + 1 + m) (λ e. absurd (omega arith))))
-      (ap (λ (l : List ℤ). padded maxDependences (drop 1 l)) (line-same (n + 1 + m) (λ e. absurd (omega arith))))
+      (ap (λ (l : List ℤ). padded maxDependences (boundariesIn m (length l) l)) (line-same (n + 1 + m) (λ e. absurd (omega arith))))
+      (ap (λ (l : List ℤ). padded maxDependences (weightsIn m (length l) l)) (line-same (n + 1 + m) (λ e. absurd (omega arith))))
 
   -- the time vector
   pub filled-time : i ≡ n → length zs ≡ n → filled n m c new ≡ withTimeLine (filled n m c ls) row
@@ -128,8 +136,8 @@ module _ (n m : ℕ) (c : ℤ) (ls : List (List ℤ)) (zs : List ℤ) (i : ℕ) 
       same-nest c refl refl (limits-same 0 (omega arith)) (limits-same 1 (omega arith))
       (ap (padded maxDepth) (line-new n h) ∙ sym (take-padded maxDepth maxFields zs (omega arith) (omega arith)))
       (ap (λ (l : List (List ℤ)). padded (maxDepth * maxDependences) (flatMap (padded maxDepth) l)) (dependences-before (omega arith)))
-      (ap (λ (l : List ℤ). at l 0) (line-same (n + 1 + m) (λ e. absurd (omega arith))))
-      (ap (λ (l : List ℤ). padded maxDependences (drop 1 l)) (line-same (n + 1 + m) (λ e. absurd (omega arith))))
+      (ap (λ (l : List ℤ). padded maxDependences (boundariesIn m (length l) l)) (line-same (n + 1 + m) (λ e. absurd (omega arith))))
+      (ap (λ (l : List ℤ). padded maxDependences (weightsIn m (length l) l)) (line-same (n + 1 + m) (λ e. absurd (omega arith))))
 
   -- a dependence, where those before it fit their places
   pub filled-dependence : n < i → i ≤ n + m → length zs ≡ n → ((j : ℕ) → n < j → length (getD ls j []) ≤ maxDepth)
@@ -145,15 +153,30 @@ module _ (n m : ℕ) (c : ℤ) (ls : List (List ℤ)) (zs : List ℤ) (i : ℕ) 
       (ap (padded maxDepth) (line-same n (λ e. absurd (omega arith))))
       (rw (dependences-more h l, flat-snoc (padded maxDepth) ds zs, take-padded maxDepth maxFields zs (omega arith) (omega arith))
       (sym (padded-row (maxDepth * maxDependences) (flatMap (padded maxDepth) ds) (padded maxDepth zs) ((i - (n + 1)) * maxDepth) maxDepth flat (length-padded maxDepth zs (omega arith)) (omega arith))))
-      (ap (λ (l : List ℤ). at l 0) (line-same (n + 1 + m) (λ e. absurd (omega arith))))
-      (ap (λ (l : List ℤ). padded maxDependences (drop 1 l)) (line-same (n + 1 + m) (λ e. absurd (omega arith))))
+      (ap (λ (l : List ℤ). padded maxDependences (boundariesIn m (length l) l)) (line-same (n + 1 + m) (λ e. absurd (omega arith))))
+      (ap (λ (l : List ℤ). padded maxDependences (weightsIn m (length l) l)) (line-same (n + 1 + m) (λ e. absurd (omega arith))))
 
-  -- the last line
-  pub filled-last : i ≡ n + 1 + m → length zs ≡ 1 + m → filled n m c new ≡ withLastLine (filled n m c ls) row
-  unfolding filled withLastLine column
-  filled-last h l =
+  -- the boundary values behind the numbers of the last line, of which there are k
+  boundaries-new : (k : ℕ) → i ≡ n + 1 + m → length zs ≡ k → m ≤ k
+      → padded maxDependences (boundariesIn m (length (getD new (n + 1 + m) [])) (getD new (n + 1 + m) []))
+      ≡ boundariesIn m k row ++ drop m (padded maxDependences (boundariesIn m (length (getD ls (n + 1 + m) [])) (getD ls (n + 1 + m) [])))
+  boundaries-new k h l few =
+      let none : getD ls (n + 1 + m) [] ≡ [] = List·getD-eq-default ls [] {n = n + 1 + m} (omega arith) in
+      let zeros : padded maxDependences (boundariesIn m (length (getD ls (n + 1 + m) [])) (getD ls (n + 1 + m) [])) ≡ replicate maxDependences (pos 0) =
+      ap (λ (l : List ℤ). padded maxDependences (boundariesIn m (length l) l)) none ∙ ap (padded maxDependences) (boundaries-none m) ∙ padded-none maxDependences in
+      let count : length (boundariesIn m k zs) ≡ m = boundaries-count m k zs (omega arith) in
+      ap (λ (l : List ℤ). padded maxDependences (boundariesIn m (length l) l)) (line-new (n + 1 + m) h)
+      ∙ ap (λ (j : ℕ). padded maxDependences (boundariesIn m j zs)) l
+      ∙ padded-by maxDependences m (boundariesIn m k zs) count
+      ∙ sym (ap₂ (λ (a b : List ℤ). a ++ drop m b) (boundaries-padded m k maxFields zs (omega arith)) zeros ∙ ap (λ (b : List ℤ). boundariesIn m k zs ++ b) (drop-zeros m maxDependences))
+
+  -- the last line, of k numbers
+  pub filled-last : (k : ℕ) → i ≡ n + 1 + m → length zs ≡ k → m ≤ k → k ≤ m + maxDependences → filled n m c new ≡ withLastLine m k (filled n m c ls) row
+  unfolding filled withBoundaryLine withLastLine column
+  filled-last k h l lo hi =
       same-nest c refl refl (limits-same 0 (omega arith)) (limits-same 1 (omega arith))
       (ap (padded maxDepth) (line-same n (λ e. absurd (omega arith))))
       (ap (λ (l : List (List ℤ)). padded (maxDepth * maxDependences) (flatMap (padded maxDepth) l)) (dependences-past (omega arith)))
-      (ap (λ (l : List ℤ). at l 0) (line-new (n + 1 + m) h) ∙ sym (at-padded maxFields zs 0))
-      (ap (λ (l : List ℤ). padded maxDependences (drop 1 l)) (line-new (n + 1 + m) h) ∙ sym (drop-padded maxDependences zs (omega arith) (omega arith)))
+      (boundaries-new k h l lo)
+      (ap (λ (l : List ℤ). padded maxDependences (weightsIn m (length l) l)) (line-new (n + 1 + m) h) ∙ ap (λ (j : ℕ). padded maxDependences (drop (j - m) zs)) l
+      ∙ sym (drop-padded maxDependences (k - m) maxFields zs (omega arith) (omega arith) (omega arith)))

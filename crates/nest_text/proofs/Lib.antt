@@ -14,6 +14,8 @@ pub mod Columns
 pub mod TextLength
 pub mod LineLaws
 pub mod ShapeLaws
+pub mod LastLine
+pub mod EqualValues
 pub mod StoreLaws
 pub mod RowLaws
 pub mod FillLaws

@@ -41,7 +41,7 @@ LinesInColumns [] = Unit {0}
 LinesInColumns (l ∷ ls) = AllInColumns l × LinesInColumns ls
 
 -- numbers behind numbers
-all-append : (xs ys : List ℤ) → AllInColumns xs → AllInColumns ys → AllInColumns (xs ++ ys)
+pub all-append : (xs ys : List ℤ) → AllInColumns xs → AllInColumns ys → AllInColumns (xs ++ ys)
 all-append [] ys h k = k
 all-append (x ∷ xs) ys h k = (h .0, all-append xs ys (h .1) k)
 

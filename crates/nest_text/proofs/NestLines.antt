@@ -2,21 +2,28 @@
 -- Assumes nothing.
 use mathlib.Core.Path.{_≡_, refl, sym, ap, ap₂, subst, _∙_}
 use mathlib.Core.List.{List, [], _∷_, _++_, map, tail, append-assoc}
-use Prim.Native.Nat.{ℕ, zero, suc, _+_, _*_, _≤_, _<_}
+use mathlib.Core.Logic.{_⊎_, inl, inr, ⊎-elim}
+use Prim.Native.Nat.{ℕ, zero, suc, _+_, _*_, _-_, _≤_, _<_}
 use native.Mathlib.Nat.{suc-ne-zero, suc-inj}
 use native.Mathlib.Omega.{arith}
+use borrow.Author.Tests.{eqb-true, eqb-false}
+use lib.Dec.{eqb}
 use lib.IntN.{ℤ, pos}
-use lib.ListN.{length, getD, take, drop, replicate, length-append, length-map, length-replicate, getD-replicate}
-use lib.ListN.{List·getD-map}
+use lib.ListN.{length, getD, take, drop, replicate, length-append, length-map, length-drop, length-replicate}
+use lib.ListN.{getD-replicate, List·getD-map, take-append-drop}
 use lib.Seq.{take-at, drop-at, getD-at}
 use Rattle.integers.specs.Lists.{tab}
-use Rattle.integers.proofs.Lists.{tab-list, map-tab}
+use Rattle.integers.proofs.Lists.{split, tab-list, map-tab}
 use Rattle.nest.specs.declared.LoopNest.{LoopNest}
 use Rattle.nest.specs.Nest.{Limit, part, depthOf, countOf, limitAt, limitsOf, timeOf, dependenceAt, dependencesOf}
-use Rattle.nest.specs.Nest.{weightsOf, nestOf, cleared, maxDepth}
-use Rattle.nest_text.specs.Text.{linesOf, widths, at, nestFrom}
-use Rattle.nest.proofs.Lengths.{limits-length, time-length, dependences-count, weights-length}
-use Rattle.nest.proofs.Places.{Fitting, made-limits, made-time, made-dependences, made-weights, made-cleared}
+use Rattle.nest.specs.Nest.{toℕ, boundariesOf, weightsOf, nestOf, cleared, maxDepth}
+use Rattle.nest_text.specs.Text.{at, longLast, linesWith, widths, shortWidth, longWidth, boundariesIn, weightsIn}
+use Rattle.nest_text.specs.Text.{nestFrom}
+use Rattle.nest_text.specs.Form.{LastSays}
+use Rattle.nest_text.proofs.LastLine.{boundaries-short, boundaries-long, boundaries-count}
+use Rattle.nest.proofs.Lengths.{limits-length, time-length, dependences-count, boundaries-length, weights-length}
+use Rattle.nest.proofs.Places.{Fitting, made-limits, made-time, made-dependences, made-boundaries, made-weights}
+use Rattle.nest.proofs.Places.{made-cleared}
 use Rattle.nest.proofs.Words.{part-length}
 
 -- the numbers of lines
@@ -31,25 +38,28 @@ pair l = l .lower ∷ l .upper ∷ []
 abbrev pub limit : List ℤ → Limit
 limit l = record { lower = at l 0; upper = at l 1 }
 
--- the lines behind line 1
-abbrev pub bodyLines : LoopNest → Lines
-bodyLines s = map pair (limitsOf s) ++ (timeOf s ∷ (dependencesOf s ++ ((s .boundary ∷ weightsOf s) ∷ [])))
+-- the lines behind line 1, with this last line
+abbrev pub bodyLines : LoopNest → List ℤ → Lines
+bodyLines s last = map pair (limitsOf s) ++ (timeOf s ∷ (dependencesOf s ++ (last ∷ [])))
 
 -- ---- the nest that lines give
 
 -- the parts of a nest stand in its lines where they are looked for
 from-lines : (n m : ℕ) (c : ℤ) (lims : Lines) (time : List ℤ) (deps : Lines) (last : List ℤ) → length lims ≡ n → length deps ≡ m
-    → nestFrom n m c (lims ++ (time ∷ (deps ++ (last ∷ [])))) ≡ nestOf c (map limit lims) time deps (at last 0) (drop 1 last)
+    → nestFrom n m c (lims ++ (time ∷ (deps ++ (last ∷ [])))) ≡ nestOf c (map limit lims) time deps (boundariesIn m (length last) last) (weightsIn m (length last) last)
 unfolding nestFrom
 from-lines n m c lims time deps last p q =
-    ap₂ (λ (a : Lines) (t : List ℤ). nestOf c (map limit a) t (take m (drop (n + 1) ls)) (at (getD ls (n + 1 + m) []) 0) (drop 1 (getD ls (n + 1 + m) [])))
+    ap₂ (λ (a : Lines) (t : List ℤ). nestOf c (map limit a) t (take m (drop (n + 1) ls)) (boundariesIn m (length found) found) (weightsIn m (length found) found))
     (take-at lims (time ∷ (deps ++ (last ∷ []))) n p) (getD-at lims time (deps ++ (last ∷ [])) [] n p)
-    ∙ ap₂ (λ (d : Lines) (l : List ℤ). nestOf c (map limit lims) time d (at l 0) (drop 1 l))
+    ∙ ap₂ (λ (d : Lines) (l : List ℤ). nestOf c (map limit lims) time d (boundariesIn m (length l) l) (weightsIn m (length l) l))
     (ap (take m) (ap (drop (n + 1)) one ∙ drop-at (lims ++ (time ∷ [])) (deps ++ (last ∷ [])) (n + 1) front) ∙ take-at deps (last ∷ []) m q)
     (ap (λ x. getD x (n + 1 + m) []) two ∙ getD-at ((lims ++ (time ∷ [])) ++ deps) last [] [] (n + 1 + m) middle)
   where
     ls : Lines
     ls = lims ++ (time ∷ (deps ++ (last ∷ [])))
+
+    found : List ℤ
+    found = getD ls (n + 1 + m) []
 
     one : ls ≡ (lims ++ (time ∷ [])) ++ (deps ++ (last ∷ []))
     one = sym (append-assoc lims (time ∷ []) (deps ++ (last ∷ [])))
@@ -63,19 +73,76 @@ from-lines n m c lims time deps last p q =
     middle : length ((lims ++ (time ∷ [])) ++ deps) ≡ n + 1 + m
     middle = length-append (lims ++ (time ∷ [])) deps ∙ ap₂ (λ a b. a + b) front q
 
+-- ---- the first number of a line
+
+-- a line of one number, with others behind it
+one-value : (xs ys : List ℤ) → length xs ≡ 1 → xs ≡ at (xs ++ ys) 0 ∷ []
+one-value [] ys e = absurd (omega arith)
+one-value (x ∷ []) ys e = refl
+one-value (x ∷ y ∷ xs) ys e = absurd (omega arith)
+
+-- the first number before the others
+first-back : (l : List ℤ) → 1 ≤ length l → l ≡ at l 0 ∷ drop 1 l
+first-back [] h = absurd (omega arith)
+first-back (a ∷ l) h = refl
+
+-- ---- a last line that says a nest's boundary values and weights
+
+-- it has one of the two numbers of fields
+pub says-width : (s : LoopNest) (last : List ℤ) → LastSays s last → (length last ≡ shortWidth (countOf s)) ⊎ (length last ≡ longWidth (countOf s))
+says-width s last (inl e) = inr (ap length e ∙ length-append (boundariesOf s) (weightsOf s) ∙ ap₂ (λ a b. a + b) (boundaries-length s) (weights-length s))
+says-width s last (inr (z, b, e)) = inl (ap length e ∙ omega (arith, weights-length s))
+
+-- it is read as these
+said : (s : LoopNest) (last : List ℤ) → LastSays s last → (boundariesIn (countOf s) (length last) last ≡ boundariesOf s) × (weightsIn (countOf s) (length last) last ≡ weightsOf s)
+said s last (inl e) = (ap (λ l. boundariesIn m (length l) l) e ∙ values, ap (λ l. weightsIn m (length l) l) e ∙ weights)
+  where
+    m : ℕ
+    m = countOf s
+
+    long : length (longLast s) ≡ m + m
+    long = length-append (boundariesOf s) (weightsOf s) ∙ ap₂ (λ a b. a + b) (boundaries-length s) (weights-length s)
+
+    values : boundariesIn m (length (longLast s)) (longLast s) ≡ boundariesOf s
+    values = split (eqb (length (longLast s)) (shortWidth m))
+        (λ t.
+        let w = eqb-true (length (longLast s)) (shortWidth m) t in
+        let one : m ≡ 1 = omega (arith, w, long) in
+        boundaries-short m (length (longLast s)) (longLast s) w
+        ∙ ap (λ n. replicate n (at (longLast s) 0)) one
+        ∙ sym (one-value (boundariesOf s) (weightsOf s) (boundaries-length s ∙ one)))
+        (λ f. boundaries-long m (length (longLast s)) (longLast s) (eqb-false (length (longLast s)) (shortWidth m) f) ∙ take-at (boundariesOf s) (weightsOf s) m (boundaries-length s))
+
+    weights : weightsIn m (length (longLast s)) (longLast s) ≡ weightsOf s
+    weights = let e : length (longLast s) - m ≡ m = omega (arith, long) in ap (λ n. drop n (longLast s)) e ∙ drop-at (boundariesOf s) (weightsOf s) m (boundaries-length s)
+said s last (inr (z, b, e)) = (
+  ap (λ l. boundariesIn m (length l) l) e ∙ boundaries-short m (length (z ∷ weightsOf s)) (z ∷ weightsOf s) width ∙ sym b,
+  ap (λ l. weightsIn m (length l) l) e ∙ ap (λ n. drop n (z ∷ weightsOf s)) first,
+)
+  where
+    m : ℕ
+    m = countOf s
+
+    width : length (z ∷ weightsOf s) ≡ shortWidth m
+    width = omega (arith, weights-length s)
+
+    first : length (z ∷ weightsOf s) - m ≡ 1
+    first = omega (arith, weights-length s)
+
 -- limits as two numbers, and back
 limits-again : (ls : List Limit) → map limit (map pair ls) ≡ ls
 limits-again [] = refl
 limits-again (l ∷ ls) = ap (λ (x : List Limit). l ∷ x) (limits-again ls)
 
 -- the lines of a nest give that nest, with 0 in the places that are no part of it
-pub nest-again : (s : LoopNest) → nestFrom (depthOf s) (countOf s) (s .cube) (bodyLines s) ≡ cleared s
+pub nest-again : (s : LoopNest) (last : List ℤ) → LastSays s last → nestFrom (depthOf s) (countOf s) (s .cube) (bodyLines s last) ≡ cleared s
 unfolding cleared
-nest-again s =
-    from-lines (depthOf s) (countOf s) (s .cube) (map pair (limitsOf s)) (timeOf s) (dependencesOf s) (s .boundary ∷ weightsOf s)
+nest-again s last says =
+    from-lines (depthOf s) (countOf s) (s .cube) (map pair (limitsOf s)) (timeOf s) (dependencesOf s) last
     (length-map (limitsOf s) pair ∙ limits-length s)
     (dependences-count s)
-    ∙ ap (λ l. nestOf (s .cube) l (timeOf s) (dependencesOf s) (s .boundary) (weightsOf s)) (limits-again (limitsOf s))
+    ∙ ap₂ (λ l b. nestOf (s .cube) l (timeOf s) (dependencesOf s) b (weightsIn (countOf s) (length last) last)) (limits-again (limitsOf s)) (said s last says .0)
+    ∙ ap (λ w. nestOf (s .cube) (limitsOf s) (timeOf s) (dependencesOf s) (boundariesOf s) w) (said s last says .1)
 
 -- ---- the numbers of fields of the lines of a nest
 
@@ -90,17 +157,16 @@ same-widths g k n h =
     map-tab length g n ∙ tab-list (λ i. length (g i)) (replicate n k) 0 n (length-replicate n k) (λ i l. h i l ∙ sym (getD-replicate n i k 0 l))
 
 -- the lines behind line 1 have as many fields as the depth and the number of dependences say
-pub body-widths : (s : LoopNest) → map length (bodyLines s) ≡ widths (depthOf s) (countOf s)
-unfolding widths limitsOf timeOf dependencesOf weightsOf part
-body-widths s =
-    widths-append (map pair (limitsOf s)) (timeOf s ∷ (dependencesOf s ++ ((s .boundary ∷ weightsOf s) ∷ [])))
+pub body-widths : (s : LoopNest) (last : List ℤ) → map length (bodyLines s last) ≡ widths (depthOf s) (countOf s) (length last)
+unfolding widths limitsOf timeOf dependencesOf part
+body-widths s last =
+    widths-append (map pair (limitsOf s)) (timeOf s ∷ (dependencesOf s ++ (last ∷ [])))
     ∙ ap₂ (λ (a b : List ℕ). a ++ b)
     (ap (map length) (map-tab pair (limitAt (s .lower) (s .upper)) (depthOf s)) ∙ same-widths (λ k. pair (limitAt (s .lower) (s .upper) k)) 2 (depthOf s) (λ i l. refl))
     (ap₂ (λ (a : ℕ) (b : List ℕ). a ∷ b) (time-length s)
-    (widths-append (dependencesOf s) ((s .boundary ∷ weightsOf s) ∷ [])
-    ∙ ap₂ (λ (a : List ℕ) (b : ℕ). a ++ (b ∷ []))
-    (same-widths (dependenceAt (s .dependences) (depthOf s)) (depthOf s) (countOf s) (λ i l. part-length (s .dependences) (i * maxDepth) (depthOf s)))
-    (let w = weights-length s in omega (arith, w))))
+    (widths-append (dependencesOf s) (last ∷ [])
+    ∙ ap (λ (a : List ℕ). a ++ (length last ∷ []))
+    (same-widths (dependenceAt (s .dependences) (depthOf s)) (depthOf s) (countOf s) (λ i l. part-length (s .dependences) (i * maxDepth) (depthOf s)))))
 
 -- ---- lines with the numbers of fields that a text has
 
@@ -131,29 +197,29 @@ how-wide : (n k : ℕ) (ls : Lines) → map length ls ≡ replicate n k → (i :
 how-wide n k ls e i h = sym (List·getD-map length ls i []) ∙ ap (λ l. getD l i 0) e ∙ getD-replicate n i k 0 h
 
 -- the lines behind line 1 of a text in form
-pub record Parts (n m : ℕ) (ls : Lines) : Type 0 where
+pub record Parts (n m k : ℕ) (ls : Lines) : Type 0 where
   lims : Lines
   time : List ℤ
   deps : Lines
-  last : List ℤ
+  pub last : List ℤ
   is : ls ≡ lims ++ (time ∷ (deps ++ (last ∷ [])))
   lims-wide : map length lims ≡ replicate n 2
   time-wide : length time ≡ n
   deps-wide : map length deps ≡ replicate m n
-  last-wide : length last ≡ 1 + m
+  last-wide : length last ≡ k
 
 -- the parts behind one another
 joined : {ls p q r e : Lines} (a : Lines) (b : List ℤ) (c : Lines) (d : List ℤ) → ls ≡ a ++ p → p ≡ b ∷ q → q ≡ c ++ r → r ≡ d ∷ e → e ≡ [] → ls ≡ a ++ (b ∷ (c ++ (d ∷ [])))
 joined a b c d f g h k l = cc
 
 -- lines in form have these parts
-pub parts : (n m : ℕ) (ls : Lines) → map length ls ≡ widths n m → Parts n m ls
+pub parts : (n m k : ℕ) (ls : Lines) → map length ls ≡ widths n m k → Parts n m k ls
 unfolding widths
-parts n m ls e =
-    let a = cut (replicate n 2) (n ∷ (replicate m n ++ ((1 + m) ∷ []))) ls e in
-    let b = cons-cut n (replicate m n ++ ((1 + m) ∷ [])) (a .1) (a .4) in
-    let c = cut (replicate m n) ((1 + m) ∷ []) (b .1) (b .4) in
-    let d = cons-cut (1 + m) [] (c .1) (c .4) in
+parts n m k ls e =
+    let a = cut (replicate n 2) (n ∷ (replicate m n ++ (k ∷ []))) ls e in
+    let b = cons-cut n (replicate m n ++ (k ∷ [])) (a .1) (a .4) in
+    let c = cut (replicate m n) (k ∷ []) (b .1) (b .4) in
+    let d = cons-cut k [] (c .1) (c .4) in
     record {
       lims = a .0;
       time = b .0;
@@ -184,38 +250,46 @@ pairs-back n [] e = refl
 pairs-back zero (l ∷ ls) e = absurd (suc-ne-zero (length (map length ls)) (ap length e))
 pairs-back (suc n) (l ∷ ls) e = ap₂ (λ (a : List ℤ) (b : Lines). a ∷ b) (pair-back l (ap (λ z. getD z 0 0) e)) (pairs-back n ls (ap tail e))
 
--- the boundary value before the weights
-last-back : (m : ℕ) (l : List ℤ) → length l ≡ 1 + m → at l 0 ∷ drop 1 l ≡ l
-last-back m [] e = absurd (omega arith)
-last-back m (a ∷ l) e = refl
+-- the nest that such lines give, of which the last has k fields
+module _ (n m k : ℕ) (c : ℤ) (ls : Lines) (p : Parts n m k ls) (few : n ≤ maxDepth) (wide : (k ≡ shortWidth m) ⊎ (k ≡ longWidth m)) where
+  -- the boundary values that the last says
+  values : List ℤ
+  values = boundariesIn m (length (p .last)) (p .last)
 
--- how many weights
-drop-one : (m : ℕ) (l : List ℤ) → length l ≡ 1 + m → length (drop 1 l) ≡ m
-drop-one m [] e = absurd (omega arith)
-drop-one m (a ∷ l) e = omega arith
+  -- and the weights
+  weights : List ℤ
+  weights = weightsIn m (length (p .last)) (p .last)
 
--- the nest that such lines give
-module _ (n m : ℕ) (c : ℤ) (ls : Lines) (p : Parts n m ls) (few : n ≤ maxDepth) where
-  -- its limits, time vector, dependences, boundary value and weights
+  -- its limits, time vector, dependences, boundary values and weights
   pub made : LoopNest
-  made = nestOf c (map limit (p .lims)) (p .time) (p .deps) (at (p .last) 0) (drop 1 (p .last))
+  made = nestOf c (map limit (p .lims)) (p .time) (p .deps) values weights
 
   -- as many limits as lines
   loops : length (map limit (p .lims)) ≡ n
   loops = length-map (p .lims) limit ∙ how-many n 2 (p .lims) (p .lims-wide)
 
+  -- as many dependences
+  count : length (p .deps) ≡ m
+  count = how-many m n (p .deps) (p .deps-wide)
+
+  -- the last line has room for the weights
+  room : m ≤ length (p .last)
+  room = ⊎-elim (λ e. omega (arith, e, p .last-wide)) (λ e. omega (arith, e, p .last-wide)) wide
+
   -- it is the nest that is read
   pub made-is : nestFrom n m c ls ≡ made
-  unfolding made
-  made-is = ap (nestFrom n m c) (p .is) ∙ from-lines n m c (p .lims) (p .time) (p .deps) (p .last) (how-many n 2 (p .lims) (p .lims-wide)) (how-many m n (p .deps) (p .deps-wide))
+  unfolding made values weights
+  made-is = ap (nestFrom n m c) (p .is) ∙ from-lines n m c (p .lims) (p .time) (p .deps) (p .last) (how-many n 2 (p .lims) (p .lims-wide)) count
 
   -- its parts fit one another
-  fit : Fitting (map limit (p .lims)) (p .time) (p .deps) (drop 1 (p .last))
+  fit : Fitting (map limit (p .lims)) (p .time) (p .deps) values weights
+  unfolding values weights
   fit = record {
     few = subst (λ k. k ≤ maxDepth) (sym loops) few;
     time-fits = p .time-wide ∙ sym loops;
-    each-fits = λ i l. how-wide m n (p .deps) (p .deps-wide) i (subst (λ k. i < k) (how-many m n (p .deps) (p .deps-wide)) l) ∙ sym loops;
-    weights-fit = drop-one m (p .last) (p .last-wide) ∙ sym (how-many m n (p .deps) (p .deps-wide));
+    each-fits = λ i l. how-wide m n (p .deps) (p .deps-wide) i (subst (λ k. i < k) count l) ∙ sym loops;
+    boundaries-fit = boundaries-count m (length (p .last)) (p .last) room ∙ sym count;
+    weights-fit = length-drop (length (p .last) - m) (p .last) ∙ omega (arith, room, count);
   }
 
   -- line 1 again
@@ -226,39 +300,57 @@ module _ (n m : ℕ) (c : ℤ) (ls : Lines) (p : Parts n m ls) (few : n ≤ maxD
   -- its number of dependences
   made-count : made .count ≡ pos m
   unfolding made nestOf
-  made-count = ap pos (how-many m n (p .deps) (p .deps-wide))
+  made-count = ap pos count
 
   -- its cube dimension
   made-cube : made .cube ≡ c
   unfolding made nestOf
   made-cube = refl
 
-  -- its boundary value
-  made-boundary : made .boundary ≡ at (p .last) 0
-  unfolding made nestOf
-  made-boundary = refl
-
   -- its other parts
-  made-parts : (limitsOf made ≡ map limit (p .lims)) × (timeOf made ≡ p .time) × (dependencesOf made ≡ p .deps) × (weightsOf made ≡ drop 1 (p .last))
+  made-parts : (limitsOf made ≡ map limit (p .lims)) × (timeOf made ≡ p .time) × (dependencesOf made ≡ p .deps)
   unfolding made
   made-parts =
       let ls′ = map limit (p .lims) in
-      let b = at (p .last) 0 in
-      let w = drop 1 (p .last) in
-      (made-limits c ls′ (p .time) (p .deps) b w, made-time c ls′ (p .time) (p .deps) b w fit, made-dependences c ls′ (p .time) (p .deps) b w fit, made-weights c ls′ (p .time) (p .deps) b w fit)
+      (made-limits c ls′ (p .time) (p .deps) values weights, made-time c ls′ (p .time) (p .deps) values weights fit, made-dependences c ls′ (p .time) (p .deps) values weights fit)
+
+  -- its boundary values and weights
+  made-last : (boundariesOf made ≡ values) × (weightsOf made ≡ weights)
+  unfolding made
+  made-last = let ls′ = map limit (p .lims) in (made-boundaries c ls′ (p .time) (p .deps) values weights fit, made-weights c ls′ (p .time) (p .deps) values weights fit)
+
+  -- which the last line says
+  pub made-says : LastSays made (p .last)
+  unfolding values weights
+  made-says = split (eqb (length (p .last)) (shortWidth m)) (λ t. short (eqb-true (length (p .last)) (shortWidth m) t)) (λ f. long (eqb-false (length (p .last)) (shortWidth m) f))
+    where
+      short : length (p .last) ≡ shortWidth m → LastSays made (p .last)
+      short w =
+          let number : m ≡ countOf made = unfold toℕ in ap toℕ (sym made-count) in
+          let one : length (p .last) - m ≡ 1 = omega (arith, w) in
+          inr (
+            at (p .last) 0,
+            made-last .0 ∙ boundaries-short m (length (p .last)) (p .last) w ∙ ap (λ j. replicate j (at (p .last) 0)) number,
+            first-back (p .last) (omega (arith, w)) ∙ ap (λ (l : List ℤ). at (p .last) 0 ∷ l) (sym (made-last .1 ∙ ap (λ j. drop j (p .last)) one)),
+          )
+
+      long : (length (p .last) ≡ shortWidth m → ⊥) → LastSays made (p .last)
+      long h =
+          let w : k ≡ longWidth m = ⊎-elim (λ e. absurd (h (p .last-wide ∙ e))) (λ e. e) wide in
+          let back : length (p .last) - m ≡ m = omega (arith, w, p .last-wide) in
+          inl (sym (ap₂ (λ (a b : List ℤ). a ++ b) (made-last .0 ∙ boundaries-long m (length (p .last)) (p .last) h) (made-last .1 ∙ ap (λ j. drop j (p .last)) back) ∙ take-append-drop m (p .last)))
 
   -- it has the numbers that the lines have
-  pub made-lines : linesOf made ≡ (pos n ∷ pos m ∷ c ∷ []) ∷ ls
-  unfolding linesOf
+  pub made-lines : linesWith made (p .last) ≡ (pos n ∷ pos m ∷ c ∷ []) ∷ ls
+  unfolding linesWith
   made-lines =
       ap₂ (λ (h : List ℤ) (b : Lines). h ∷ b)
       (ap₂ (λ (x y : ℤ). x ∷ y ∷ made .cube ∷ []) made-depth made-count ∙ ap (λ (z : ℤ). pos n ∷ pos m ∷ z ∷ []) made-cube)
-      (ap₂ (λ (l : List Limit) (t : List ℤ). map pair l ++ (t ∷ (dependencesOf made ++ ((made .boundary ∷ weightsOf made) ∷ [])))) (made-parts .0) (made-parts .1)
-      ∙ ap₂ (λ (d : Lines) (w : List ℤ). map pair (map limit (p .lims)) ++ (p .time ∷ (d ++ ((made .boundary ∷ w) ∷ [])))) (made-parts .2) (made-parts .3)
-      ∙ ap₂ (λ (a : Lines) (b : List ℤ). a ++ (p .time ∷ (p .deps ++ (b ∷ [])))) (pairs-back n (p .lims) (p .lims-wide)) (ap (λ (z : ℤ). z ∷ drop 1 (p .last)) made-boundary ∙ last-back m (p .last) (p .last-wide))
+      (ap₂ (λ (l : List Limit) (t : List ℤ). map pair l ++ (t ∷ (dependencesOf made ++ (p .last ∷ [])))) (made-parts .0) (made-parts .1)
+      ∙ ap₂ (λ (a d : Lines). a ++ (p .time ∷ (d ++ (p .last ∷ [])))) (pairs-back n (p .lims) (p .lims-wide)) (made-parts .2)
       ∙ sym (p .is))
 
   -- it has 0 in the places that are no part of it
   pub made-clear : cleared made ≡ made
   unfolding made
-  made-clear = made-cleared c (map limit (p .lims)) (p .time) (p .deps) (at (p .last) 0) (drop 1 (p .last)) fit
+  made-clear = made-cleared c (map limit (p .lims)) (p .time) (p .deps) values weights fit

@@ -23,11 +23,12 @@ use Rattle.nest_text.specs.Text.{at, numbersOf, behind, lineNumbers, hea
 use Rattle.nest_text.specs.Text.{headed, headerOf}
 use Rattle.nest_text.specs.Text.{restOf, isShaped, bodyNumbers, nestFrom, bodyOf, malformedUnless, readRefusal}
 use Rattle.nest_text.specs.Text.{readNest}
-use Rattle.nest_text.specs.Reader.{maxFields, lineOf, headerRefusal, headerRead, filled, bodyRead}
+use Rattle.nest_text.specs.Reader.{maxFields, lineOf, headerRefusal, headerRead, lastWidth, filled, bodyRead}
 use Rattle.nest_text.proofs.FieldLaws.{rest-part}
 use Rattle.nest.proofs.Padding.{at-padded}
-use Rattle.nest_text.proofs.ShapeLaws.{shapes-first, header-one, header-numbers, rest-behind}
-use Rattle.nest_text.proofs.BodyLaws.{answered, unanswered, line-inside, filled-nest}
+use Rattle.nest_text.proofs.ShapeLaws.{header-one, header-numbers, rest-behind}
+use Rattle.nest_text.proofs.LastLine.{line-inside, width-least, width-most, shapes-first, boundaries-none}
+use Rattle.nest_text.proofs.BodyLaws.{answered, unanswered, filled-nest}
 
 -- the answer of the whole
 abbrev pub readingOf : Bytes → Reading
@@ -56,7 +57,7 @@ shaped s n m c = record {
   upper = s .upper;
   time = s .time;
   dependences = s .dependences;
-  boundary = s .boundary;
+  boundaries = s .boundaries;
   weights = s .weights;
 }
 
@@ -83,7 +84,7 @@ filled-shape n m c ls = (refl, refl, refl)
 -- before any line is read it has its shape alone
 filled-none : (n m : ℕ) (c : ℤ) → filled n m c [] ≡ shaped emptyNest (pos n) (pos m) c
 unfolding filled padded emptyNest flatMap
-filled-none n m c = rw (take-nil n, drop-nil (n + 1), take-nil m) refl
+filled-none n m c = rw (take-nil n, drop-nil (n + 1), take-nil m, boundaries-none m, drop-nil (0 - m)) refl
 
 -- the refusals of line 1 look at the shape alone
 pub same-shape : (s t : LoopNest) → s .depth ≡ t .depth → s .count ≡ t .count → s .cube ≡ t .cube → firstMet s headerOrder ≡ firstMet t headerOrder
@@ -217,22 +218,26 @@ module _ (bs : Bytes) where
     abbrev c : ℤ
     c = headerOf bs .cube
 
+    -- the number of fields of the last line
+    abbrev last : ℕ
+    last = lastWidth n m (length (restOf bs))
+
     -- ---- lines of a shape that fits
     module _ (form : isShaped bs ≡ true) where
       -- they are read by it
-      numbers-are : bodyNumbers bs ≡ lineNumbers (widths n m) (restOf bs)
+      numbers-are : bodyNumbers bs ≡ lineNumbers (widths n m last) (restOf bs)
       unfolding bodyNumbers isShaped
       numbers-are = ap (λ w. lineNumbers w (restOf bs)) (shapes-first n m (restOf bs) form)
 
       -- the nest that is read, by its filling
-      body-filled : bodyOf bs ≡ filled n m c (lineNumbers (widths n m) (restOf bs))
+      body-filled : bodyOf bs ≡ filled n m c (lineNumbers (widths n m last) (restOf bs))
       unfolding bodyOf
-      body-filled = ap (nestFrom n m c) numbers-are ∙ sym (filled-nest n m c (restOf bs) (fitting .depth-few) (fitting .count-few))
+      body-filled = ap (nestFrom n m c) numbers-are ∙ sym (filled-nest n m last c (restOf bs) (fitting .depth-few) (fitting .count-few) (width-least n m (length (restOf bs))) (width-most n m (length (restOf bs)) (fitting .count-few)))
 
       -- it has line 1's shape, so the refusals of line 1 are not met
       shape-kept : firstMet (bodyOf bs) headerOrder ≡ 0
       shape-kept =
-          let f = filled-shape n m c (lineNumbers (widths n m) (restOf bs)) in
+          let f = filled-shape n m c (lineNumbers (widths n m last) (restOf bs)) in
           same-shape (bodyOf bs) (headerOf bs) (ap (λ (s : LoopNest). s .depth) body-filled ∙ (f .0 ∙ sym (fitting .depth-is)))
           (ap (λ (s : LoopNest). s .count) body-filled ∙ (f .1 ∙ sym (fitting .count-is)))
           (ap (λ (s : LoopNest). s .cube) body-filled ∙ f .2)

@@ -2,14 +2,15 @@
 -- Assumes nothing.
 use mathlib.Core.Path.{_≡_, refl, sym, ap, ap₂, subst, _∙_}
 use mathlib.Core.Bool.{Bool, true, false, not, _&&_}
-use mathlib.Core.List.{List, [], _∷_, _++_, List·Memᴰ}
+use mathlib.Core.List.{List, [], _∷_, List·Memᴰ}
+use mathlib.Core.Logic.{⊎-elim}
 use Prim.Native.Nat.{ℕ, zero, suc, _+_, _*_, _-_, _≤_}
-use native.Mathlib.Nat.{suc-ne-zero, not-suc-le-zero, mul-le-mul, mul-suc}
+use native.Mathlib.Nat.{suc-ne-zero, not-suc-le-zero, mul-le-mul}
 use native.Mathlib.Omega.{arith}
 use borrow.Author.Tests.{ne-eqb}
 use lib.Dec.{eqb}
 use lib.IntN.{ℤ}
-use lib.ListN.{length, getD, take, drop, replicate}
+use lib.ListN.{length, getD, take, drop}
 use lib.Seq.{take-take, getD-take, take-nil}
 use Rattle.integers.specs.Lists.{any}
 use Rattle.integers.proofs.Lists.{tab-same, split}
@@ -17,20 +18,22 @@ use Rattle.nest.specs.declared.LoopNest.{LoopNest}
 use Rattle.nest.specs.Nest.{depthOf, countOf, emptyNest, maxDepth, maxDependences}
 use Rattle.nest.specs.Refusals.{firstMet, headerOrder, bodyOrder, refusal, orElse}
 use Rattle.nest_text.specs.Fields.{columns, Bytes, newline, readOf}
-use Rattle.nest_text.specs.Text.{lineLength, headerWidth, limitWidth, textLength, textOf, isMalformed, numberOf}
+use Rattle.nest_text.specs.Text.{lineLength, headerWidth, textLength, textOf, isMalformed, numberOf}
 use Rattle.nest_text.specs.Text.{fieldAt, isLine, numbersOf, behind, areLines, lineNumbers}
-use Rattle.nest_text.specs.Text.{headerWidths, Shape, widths, shapes, shapesOf, fits, firstFitting, isHeaded}
+use Rattle.nest_text.specs.Text.{headerWidths, Shape, widths, shortWidth, longWidth, shapes, shapesOf, fits}
+use Rattle.nest_text.specs.Text.{firstFitting, isHeaded}
 use Rattle.nest_text.specs.Text.{headerWidthOf, headerNumbers, headed, headerOf}
 use Rattle.nest_text.specs.Text.{restOf, isShaped, bodyNumbers, nestFrom, bodyOf, malformedUnless, readRefusal}
 use Rattle.nest_text.specs.Text.{readNest, readMost}
 use Rattle.nest.proofs.Spans.{spans, HeaderSpans, header-spans}
-use Rattle.nest_text.proofs.ShapeLaws.{any-same, first-same, one-listed, fitting-listed, none-fitting}
+use Rattle.nest_text.proofs.ShapeLaws.{any-same, first-same, one-listed, two-listed, fitting-listed, none-fitting}
 use Rattle.nest_text.proofs.ShapeLaws.{header-narrow}
+use Rattle.nest_text.proofs.LastLine.{textBytes, widths-long}
 use Rattle.nest_text.proofs.TextLength.{text-most}
 use Rattle.nest.proofs.Entries.{orElse-zero}
 
 -- the longest text of an accepted nest
-pub text-longest : (s : LoopNest) → refusal s ≡ 0 → length (textOf s) ≤ textLength maxDepth maxDependences
+pub text-longest : (s : LoopNest) → refusal s ≡ 0 → length (textOf s) ≤ textLength maxDepth maxDependences (longWidth maxDependences)
 text-longest s e = text-most s (spans s e)
 
 -- ---- parts of the first N bytes
@@ -61,11 +64,6 @@ numbers-take : (N k : ℕ) (bs : Bytes) → columns * k ≤ N → numbersOf k (t
 unfolding numbersOf
 numbers-take N k bs h = tab-same (λ i. numberOf (fieldAt (take N bs) i)) (λ i. numberOf (fieldAt bs i)) k (λ i l. ap numberOf (field-take N i bs (omega arith)))
 
--- how many bytes lines with these numbers of fields have
-abbrev textBytes : List ℕ → ℕ
-textBytes [] = 0
-textBytes (k ∷ ks) = lineLength k + textBytes ks
-
 -- whether any byte is there
 none-take : (N : ℕ) (bs : Bytes) → 1 ≤ N → eqb (length (take N bs)) 0 ≡ eqb (length bs) 0
 none-take zero bs h = absurd (not-suc-le-zero h)
@@ -90,30 +88,13 @@ lines-numbers-take (k ∷ ks) N bs h =
 
 -- ---- how long the lines behind line 1 are
 
--- lines behind lines
-textBytes-append : (xs ys : List ℕ) → textBytes (xs ++ ys) ≡ textBytes xs + textBytes ys
-textBytes-append [] ys = omega arith
-textBytes-append (x ∷ xs) ys = let ih = textBytes-append xs ys in omega arith
-
--- n lines of k fields each
-textBytes-same : (n k : ℕ) → textBytes (replicate n k) ≡ lineLength k * n
-textBytes-same zero k = omega arith
-textBytes-same (suc n) k = let ih = textBytes-same n k in omega (arith, mul-suc (lineLength k) n)
-
 -- the most that an accepted line 1 asks for, with line 1 itself
-widths-most : (n m : ℕ) → n ≤ maxDepth → m ≤ maxDependences
-    → lineLength headerWidth + textBytes (widths n m) ≤ textLength maxDepth maxDependences
-unfolding widths
-widths-most n m h k =
+widths-most : (n m k : ℕ) → n ≤ maxDepth → m ≤ maxDependences → k ≤ longWidth maxDependences
+    → lineLength headerWidth + textBytes (widths n m k) ≤ textLength maxDepth maxDependences (longWidth maxDependences)
+widths-most n m k h l w =
     let p : lineLength n ≤ lineLength maxDepth = omega arith in
-    omega (
-      arith,
-      textBytes-append (replicate n limitWidth) (n ∷ (replicate m n ++ ((1 + m) ∷ []))),
-      textBytes-append (replicate m n) ((1 + m) ∷ []),
-      textBytes-same n limitWidth,
-      textBytes-same m n,
-      mul-le-mul p k,
-    )
+    let q : m + 1 ≤ maxDependences + 1 = omega arith in
+    omega (arith, widths-long n m k, mul-le-mul p q)
 
 -- ---- shapes
 
@@ -174,12 +155,19 @@ module _ (bs : Bytes) (h : HeaderSpans (headerOf bs)) where
   abbrev far : ℕ
   far = readMost - lineLength (headerWidthOf bs)
 
-  -- lines of such a shape are shorter
+  -- lines whose last has few enough fields are shorter
+  short : (w : Shape) (k : ℕ) → w ≡ widths (depthOf (headerOf bs)) (countOf (headerOf bs)) k → k ≤ longWidth maxDependences → textBytes w + 1 ≤ far
+  short w k e l =
+      let t = ap textBytes e in
+      omega (arith, t, widths-most (depthOf (headerOf bs)) (countOf (headerOf bs)) k (h .depth-few) (h .count-few) l, header-narrow bs)
+
+  -- so are those of each of these shapes
   most : (w : Shape) → List·Memᴰ w ws → textBytes w + 1 ≤ far
   unfolding shapes
-  most w m =
-      let e = ap textBytes (one-listed m) in
-      omega (arith, e, widths-most (depthOf (headerOf bs)) (countOf (headerOf bs)) (h .depth-few) (h .count-few), header-narrow bs)
+  most w l = ⊎-elim
+      (λ e. short w (shortWidth (countOf (headerOf bs))) e (omega (arith, h .count-few)))
+      (λ e. short w (longWidth (countOf (headerOf bs))) e (omega (arith, h .count-few)))
+      (two-listed l)
 
   -- line 1 allows the same
   shapes-take : shapesOf (headerOf (take readMost bs)) ≡ ws

@@ -19,49 +19,49 @@ module _ {A : Type 0} where
   getD-behind : (xs ys : List A) (k j : ℕ) (d : A) → length xs ≡ k → getD (xs ++ ys) (k + j) d ≡ getD ys j d
   getD-behind xs ys k j d e = ap (λ (n : ℕ). getD (xs ++ ys) (n + j) d) (sym e) ∙ getD-append-add xs ys j d
 
-module _ (n m : ℕ) where
+module _ (n m k : ℕ) where
   -- a line of limits
-  pub width-limit : (i : ℕ) → i < n → getD (widths n m) i 0 ≡ limitWidth
+  pub width-limit : (i : ℕ) → i < n → getD (widths n m k) i 0 ≡ limitWidth
   unfolding widths
-  width-limit i h = List·getD-append (replicate n limitWidth) (n ∷ (replicate m n ++ ((1 + m) ∷ []))) 0 i (rw length-replicate h) ∙ getD-replicate n i limitWidth 0 h
+  width-limit i h = List·getD-append (replicate n limitWidth) (n ∷ (replicate m n ++ (k ∷ []))) 0 i (rw length-replicate h) ∙ getD-replicate n i limitWidth 0 h
 
   -- the time vector and the dependences
-  pub width-vector : (j : ℕ) → j ≤ m → getD (widths n m) (n + j) 0 ≡ n
+  pub width-vector : (j : ℕ) → j ≤ m → getD (widths n m k) (n + j) 0 ≡ n
   unfolding widths
-  width-vector zero h = getD-behind (replicate n limitWidth) (n ∷ (replicate m n ++ ((1 + m) ∷ []))) n 0 0 (length-replicate n limitWidth)
+  width-vector zero h = getD-behind (replicate n limitWidth) (n ∷ (replicate m n ++ (k ∷ []))) n 0 0 (length-replicate n limitWidth)
   width-vector (suc j) h =
-      getD-behind (replicate n limitWidth) (n ∷ (replicate m n ++ ((1 + m) ∷ []))) n (suc j) 0 (length-replicate n limitWidth)
-      ∙ (List·getD-append (replicate m n) ((1 + m) ∷ []) 0 j (rw length-replicate (omega arith)) ∙ getD-replicate m j n 0 (omega arith))
+      getD-behind (replicate n limitWidth) (n ∷ (replicate m n ++ (k ∷ []))) n (suc j) 0 (length-replicate n limitWidth)
+      ∙ (List·getD-append (replicate m n) (k ∷ []) 0 j (rw length-replicate (omega arith)) ∙ getD-replicate m j n 0 (omega arith))
 
-  -- the boundary value and the weights
-  pub width-last : getD (widths n m) (n + suc m) 0 ≡ 1 + m
+  -- the boundary values and the weights
+  pub width-last : getD (widths n m k) (n + suc m) 0 ≡ k
   unfolding widths
   width-last =
-      getD-behind (replicate n limitWidth) (n ∷ (replicate m n ++ ((1 + m) ∷ []))) n (suc m) 0 (length-replicate n limitWidth)
-      ∙ (ap (λ (k : ℕ). getD (replicate m n ++ ((1 + m) ∷ [])) k 0) (add-zero m) ∙ getD-behind (replicate m n) ((1 + m) ∷ []) m 0 0 (length-replicate m n))
+      getD-behind (replicate n limitWidth) (n ∷ (replicate m n ++ (k ∷ []))) n (suc m) 0 (length-replicate n limitWidth)
+      ∙ (ap (λ (j : ℕ). getD (replicate m n ++ (k ∷ [])) j 0) (add-zero m) ∙ getD-behind (replicate m n) (k ∷ []) m 0 0 (length-replicate m n))
     where
-      add-zero : (k : ℕ) → k ≡ k + 0
-      add-zero k = omega arith
+      add-zero : (j : ℕ) → j ≡ j + 0
+      add-zero j = omega arith
 
 -- ---- what line i is
 
-module _ (n m i : ℕ) (s : LoopNest) (row : List ℤ) where
+module _ (n m k i : ℕ) (s : LoopNest) (row : List ℤ) where
   -- the limits of a loop
-  pub limits-line : i < n → withLimitLine s i row ≡ withLine n m s i row
+  pub limits-line : i < n → withLimitLine s i row ≡ withLine n m k s i row
   unfolding withLine
   limits-line h = rw (lt-ltb i n h, withLine) refl
 
   -- the time vector
-  pub time-line : i ≡ n → withTimeLine s row ≡ withLine n m s i row
+  pub time-line : i ≡ n → withTimeLine s row ≡ withLine n m k s i row
   unfolding withLine
   time-line h = rw (le-ltb i n (omega arith), eq-eqb i n h, withLine) refl
 
   -- a dependence
-  pub dependence-line : n < i → i ≤ n + m → withDependenceLine s (i - (n + 1)) row ≡ withLine n m s i row
+  pub dependence-line : n < i → i ≤ n + m → withDependenceLine s (i - (n + 1)) row ≡ withLine n m k s i row
   unfolding withLine
   dependence-line h l = rw (le-ltb i n (omega arith), ne-eqb i n (λ e. absurd (omega arith)), le-leb i (n + m) l, withLine) refl
 
-  -- the boundary value and the weights
-  pub last-line : n + m < i → withLastLine s row ≡ withLine n m s i row
+  -- the boundary values and the weights
+  pub last-line : n + m < i → withLastLine m k s row ≡ withLine n m k s i row
   unfolding withLine
   last-line h = rw (le-ltb i n (omega arith), ne-eqb i n (λ e. absurd (omega arith)), lt-leb i (n + m) h, withLine) refl

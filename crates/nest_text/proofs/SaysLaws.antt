@@ -16,20 +16,16 @@ use Rattle.nest_text.specs.Text.{readRefusal, readNest}
 use Rattle.nest_text.specs.Form.{Whole, readOrder, ReadSays}
 use Rattle.nest_text.proofs.Answers.{read-answered}
 use Rattle.nest_text.proofs.ReadLaws.{header-zero, rest-form, whole-refused}
-use Rattle.nest_text.proofs.RoundTrip.{read-is, whole-body, body-whole}
+use Rattle.nest_text.proofs.RoundTrip.{read-is, whole-body, body-said}
 
 module _ (bs : Bytes) where
-  -- the nest of an accepted text is what it says
-  said : readRefusal bs ≡ 0 → Whole bs (readNest bs)
-  said e = let none = header-zero bs e in subst (Whole bs) (sym (read-is bs e)) (body-whole bs none (rest-form bs none e))
-
   -- that of a refused one is 0 in every place
   refused : (readRefusal bs ≡ 0 → ⊥) → readNest bs ≡ emptyNest
   refused h = sym (ap (λ (x : Reading). x .nest) (whole-refused bs (readRefusal bs) refl h))
 
   -- what is answered, they say
   pub read-says : ReadSays bs (readRefusal bs) (readNest bs)
-  read-says = record { number-is = read-answered bs; nest-said = said; nest-refused = refused }
+  read-says = record { number-is = read-answered bs; nest-said = body-said bs; nest-refused = refused }
 
   -- what they say is answered
   pub says-unique : (k : ℕ) (x : LoopNest) → ReadSays bs k x → (readRefusal bs ≡ k) × (readNest bs ≡ x)

@@ -1,9 +1,10 @@
 -- The listed numbers of fields of line 1 and the listed shapes of the lines behind it: what the
--- first that fits is, and what it is where one is listed.
+-- first that fits is.
 -- Assumes nothing.
 use mathlib.Core.Path.{_≡_, refl, sym, ap, ap₂, subst, _∙_}
 use mathlib.Core.Bool.{Bool, true, false}
 use mathlib.Core.List.{List, [], _∷_, List·Memᴰ, List·Memᴰ·head, List·Memᴰ·tail}
+use mathlib.Core.Logic.{_⊎_, inl, inr}
 use Prim.Native.Nat.{ℕ, _≤_}
 use native.Mathlib.Omega.{arith}
 use lib.ListN.{getD}
@@ -11,8 +12,8 @@ use Rattle.integers.specs.Lists.{any, first}
 use Rattle.integers.proofs.Lists.{T-true, any-one, split}
 use Rattle.integers.proofs.ListFacts.{any-mem, first-passes, first-mem, first-at, first-empty}
 use Rattle.nest_text.specs.Fields.{Bytes}
-use Rattle.nest_text.specs.Text.{isLine, numbersOf, behind, areLines, headerWidth, headerWidths, Shape, widths}
-use Rattle.nest_text.specs.Text.{shapes, fits, firstFitting, isHeaded, headerWidthOf, headerNumbers, restOf}
+use Rattle.nest_text.specs.Text.{isLine, numbersOf, behind, areLines, headerWidth, headerWidths, Shape}
+use Rattle.nest_text.specs.Text.{fits, firstFitting, isHeaded, headerWidthOf, headerNumbers, restOf}
 
 -- ---- the first of a list that passes a test
 
@@ -55,6 +56,11 @@ pub one-listed : {A : Type 0} {x y : A} → List·Memᴰ x (y ∷ []) → x ≡ 
 one-listed (List·Memᴰ·head e) = e
 one-listed (List·Memᴰ·tail m) = elim m [ ]
 
+-- what a list of two holds
+pub two-listed : {A : Type 0} {x y z : A} → List·Memᴰ x (y ∷ z ∷ []) → (x ≡ y) ⊎ (x ≡ z)
+two-listed (List·Memᴰ·head e) = inl e
+two-listed (List·Memᴰ·tail m) = inr (one-listed m)
+
 -- ---- shapes
 
 module _ (ws : List Shape) (bs : Bytes) where
@@ -77,28 +83,6 @@ module _ (ws : List Shape) (bs : Bytes) where
   pub listed-shape : (w : Shape) → List·Memᴰ w ws → areLines w bs ≡ true → fits ws bs ≡ true
   unfolding fits
   listed-shape w m e = any-mem (λ v. areLines v bs) ws w m e
-
-module _ (w : Shape) (bs : Bytes) where
-  -- where one shape is listed, it is to fit
-  pub fits-one : fits (w ∷ []) bs ≡ areLines w bs
-  unfolding fits
-  fits-one = any-one (λ v. areLines v bs) w
-
-  -- and is the one by which bytes are read
-  pub firstFitting-one : areLines w bs ≡ true → firstFitting (w ∷ []) bs ≡ w
-  firstFitting-one e = one-listed (fitting-listed (w ∷ []) bs (fits-one ∙ e))
-
--- today one is
-module _ (n m : ℕ) (bs : Bytes) where
-  -- so lines are in form exactly if it fits
-  pub shapes-one : fits (shapes n m) bs ≡ areLines (widths n m) bs
-  unfolding shapes
-  shapes-one = fits-one (widths n m) bs
-
-  -- and are read by it
-  pub shapes-first : fits (shapes n m) bs ≡ true → firstFitting (shapes n m) bs ≡ widths n m
-  unfolding shapes
-  shapes-first h = firstFitting-one (widths n m) bs (sym (fits-one (widths n m) bs) ∙ h)
 
 -- ---- line 1
 

@@ -24,7 +24,7 @@ timed s l = record {
   upper = s .upper;
   time = l;
   dependences = s .dependences;
-  boundary = s .boundary;
+  boundaries = s .boundaries;
   weights = s .weights;
 }
 
@@ -38,7 +38,21 @@ depending s l = record {
   upper = s .upper;
   time = s .time;
   dependences = l;
-  boundary = s .boundary;
+  boundaries = s .boundaries;
+  weights = s .weights;
+}
+
+-- with other boundary values
+abbrev pub bounded : LoopNest → List ℤ → LoopNest
+bounded s l = record {
+  depth = s .depth;
+  count = s .count;
+  cube = s .cube;
+  lower = s .lower;
+  upper = s .upper;
+  time = s .time;
+  dependences = s .dependences;
+  boundaries = l;
   weights = s .weights;
 }
 
@@ -52,7 +66,7 @@ weighted s l = record {
   upper = s .upper;
   time = s .time;
   dependences = s .dependences;
-  boundary = s .boundary;
+  boundaries = s .boundaries;
   weights = l;
 }
 
@@ -106,6 +120,14 @@ module _ (s t r : LoopNest) (row : List ℤ) (k : ℕ) (z : ℤ) (l : k < length
       let o : k ≡ 0 + k = omega arith in
       e ∙ (ap (λ (x : LoopNest). timed x (set (x .time) k z)) inv
       ∙ (ap₂ (λ (j : ℕ) (v : ℤ). timed s (set (over (s .time) 0 row k) j v)) o q ∙ ap (timed s) (over-more (s .time) 0 row k (omega arith) l)))
+
+  -- of the boundary values
+  pub boundaries-more : t ≡ bounded s (over (s .boundaries) 0 row k) → k < length (s .boundaries) → r ≡ bounded t (set (t .boundaries) k z)
+      → r ≡ bounded s (over (s .boundaries) 0 row (k + 1))
+  boundaries-more inv h e =
+      let o : k ≡ 0 + k = omega arith in
+      e ∙ (ap (λ (x : LoopNest). bounded x (set (x .boundaries) k z)) inv
+      ∙ (ap₂ (λ (j : ℕ) (v : ℤ). bounded s (set (over (s .boundaries) 0 row k) j v)) o q ∙ ap (bounded s) (over-more (s .boundaries) 0 row k (omega arith) l)))
 
   -- of the weights
   pub weights-more : t ≡ weighted s (over (s .weights) 0 row k) → k < length (s .weights) → r ≡ weighted t (set (t .weights) k z)

@@ -10,7 +10,7 @@ use Rattle.nest.specs.Refusals.{badCount, headerOrder, limitOrder, vectorOrder,
 use Rattle.nest.proofs.Answers.{answered-first, answered-without, numbered-one, one-append}
 use Rattle.nest.proofs.Twelve.{ZeroSquare, three-or-eleven}
 use Rattle.nest_text.specs.Fields.{Bytes}
-use Rattle.nest_text.specs.Text.{linesOf, headed, readRefusal}
+use Rattle.nest_text.specs.Text.{linesWith, headed, readRefusal}
 use Rattle.nest_text.specs.Form.{Whole, LineMalformed, LineMeets, RestMalformed, NestMeets, readOrder}
 use Rattle.nest_text.proofs.Answers.{read-answered}
 
@@ -32,7 +32,7 @@ module _ (bs : Bytes) where
 
   -- a text that says too few or too many dependences says so in line 1
   line-count : (s : LoopNest) → Whole bs s → Condition s badCount → LineMeets bs badCount
-  unfolding linesOf headed
+  unfolding linesWith headed
   line-count s w c = (s .depth ∷ s .count ∷ s .cube ∷ [], w .lines-are .0, (List·Memᴰ·head refl, w .lines-are .1), c)
 
   -- where 12 would be met, one before it is

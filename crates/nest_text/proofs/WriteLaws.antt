@@ -9,7 +9,7 @@ use lib.IntN.{ℤ, pos, negsuc}
 use lib.ListN.{length, getD, take, drop, set, replicate, length-append, length-replicate}
 use lib.Seq.{sets, length-sets, sets-eq}
 use Rattle.integers.specs.Lists.{tab}
-use Rattle.integers.proofs.Lists.{flatMap-tab-more, flatMap-length}
+use Rattle.integers.proofs.Lists.{flatMap-append, flatMap-tab-more, flatMap-length}
 use Rattle.nest.specs.Nest.{part}
 use Rattle.nest_text.specs.Fields.{columns, space, Bytes, numeralOf, fieldOf, newline}
 use Rattle.nest_text.specs.Text.{lineLength, limitWidth, line}
@@ -93,7 +93,12 @@ pub lines-more : {old out new : Bytes} {at end end′ : ℕ} (g : ℕ → List �
     → Stored out end (line (g k)) new end′ → Stored old at (flatMap line (tab g (k + 1))) new end′
 lines-more g k p q = stored-as (sym (flatMap-tab-more line g k)) (stored-more p q)
 
--- a field before those of a line
+-- fields before those of a line
+pub line-append : (xs ys : List ℤ) → flatMap fieldOf xs ++ line ys ≡ line (xs ++ ys)
+unfolding line
+line-append xs ys = sym (append-assoc (flatMap fieldOf xs) (flatMap fieldOf ys) (newline ∷ [])) ∙ ap (λ bs. bs ++ (newline ∷ [])) (sym (flatMap-append fieldOf xs ys))
+
+-- one field
 pub line-cons : (z : ℤ) (zs : List ℤ) → fieldOf z ++ line zs ≡ line (z ∷ zs)
 unfolding line flatMap
 line-cons z zs = sym (append-assoc (fieldOf z) (flatMap fieldOf zs) (newline ∷ []))

@@ -1,18 +1,20 @@
--- The form of a text, and what reading it answers, in document 01's words. proofs/ shows that what
+-- The form of a text, and what reading it answers, in the documents' words. proofs/ shows that what
 -- is computed is exactly this: Numerals.antt for Fields.readOf, LineBack.antt for Text.isLine,
 -- Text.areLines and Text.fits, Answers.antt for Text.readRefusal, SaysLaws.antt for it and
 -- Text.readNest.
 -- Assumes nothing.
 use mathlib.Core.Path.{_≡_}
 use mathlib.Core.List.{List, [], _∷_, _++_, map, List·Memᴰ}
-use Prim.Native.Nat.{ℕ, _+_, _*_, _^_, _<_}
+use mathlib.Core.Logic.{_⊎_}
+use Prim.Native.Nat.{ℕ, _+_, _*_, _^_, _<_, _≤_}
 use lib.IntN.{ℤ, pos, negℤ}
 use lib.ListN.{length, getD, replicate}
 use Rattle.nest.specs.declared.LoopNest.{LoopNest}
-use Rattle.nest.specs.Nest.{cleared, emptyNest}
+use Rattle.nest.specs.Nest.{countOf, boundariesOf, weightsOf, cleared, emptyNest}
 use Rattle.nest.specs.Refusals.{Refusal, headerOrder, bodyOrder, refusal, Condition, Order, Answered, numbered}
 use Rattle.nest_text.specs.Fields.{Bytes, columns, newline, space, minus, zeroDigit}
-use Rattle.nest_text.specs.Text.{linesOf, textOf, headerWidths, Shape, shapesOf, headed, readNest}
+use Rattle.nest_text.specs.Text.{at, longLast, shortLast, linesWith, textWith, textOf, headerWidths, Shape}
+use Rattle.nest_text.specs.Text.{shapesOf, headed, readNest}
 
 -- ---- a number in columns
 
@@ -66,10 +68,19 @@ Consists bs (zs ∷ ls) = (rest : Bytes) × Begins bs zs rest × Consists rest l
 
 -- ---- the whole text
 
+-- a last line says a nest's boundary values and weights: the m values and then the m weights; or
+-- one value, which each of the m is, and then the m weights
+abbrev pub LastSays : LoopNest → List ℤ → Type 0
+LastSays s last =
+    (last ≡ longLast s)
+    ⊎ ((z : ℤ) × (boundariesOf s ≡ replicate (countOf s) z) × (last ≡ z ∷ weightsOf s))
+
 -- it is in form and says the nest: it consists of the nest's lines, and places that they have no
 -- field for are 0
 pub record Whole (bs : Bytes) (s : LoopNest) : Type 0 where
-  pub lines-are : Consists bs (linesOf s)
+  pub last : List ℤ
+  pub last-says : LastSays s last
+  pub lines-are : Consists bs (linesWith s last)
   pub other-places : cleared s ≡ s
 
 -- ---- what reading answers
@@ -116,9 +127,23 @@ pub record ReadSays (bs : Bytes) (k : ℕ) (x : LoopNest) : Type 0 where
 
 -- ---- read and written
 
--- what was read is written again as it stood; it is an accepted nest, with 0 in the places that are
--- no part of it
+-- any two of the numbers are equal
+abbrev pub AllEqual : List ℤ → Type 0
+AllEqual zs = (i j : ℕ) → i < length zs → j < length zs → at zs i ≡ at zs j
+
+-- a text with a long last line of equal boundary values, of two dependences or more
+abbrev pub LongEqual : LoopNest → Bytes → Type 0
+LongEqual s bs = (2 ≤ countOf s) × AllEqual (boundariesOf s) × (bs ≡ textWith s (longLast s))
+
+-- the texts of a nest: what is written for it, and a long last line where a short one is written
+abbrev pub TextFor : LoopNest → Bytes → Type 0
+TextFor s bs = (bs ≡ textOf s) ⊎ LongEqual s bs
+
+-- a text that is read as an accepted nest, with 0 in the places that are no part of it: written
+-- again it has the same bytes, unless its last line was a long one of equal boundary values; then
+-- it is the short text of the same nest
 pub record WrittenRead (bs : Bytes) : Type 0 where
-  pub same-bytes : textOf (readNest bs) ≡ bs
   pub accepted : refusal (readNest bs) ≡ 0
   pub clear-places : cleared (readNest bs) ≡ readNest bs
+  pub bytes-are : (textOf (readNest bs) ≡ bs)
+      ⊎ (LongEqual (readNest bs) bs × (textOf (readNest bs) ≡ textWith (readNest bs) (shortLast (readNest bs))))

@@ -1,26 +1,27 @@
 -- Serves the contracts of inner functions alone: the steps of the reader, a line as the code holds
--- it and the nest as it is filled line by line.
+-- it and the nest as it is filled line by line; and how many boundary values the writer writes.
 -- Assumes nothing.
 use mathlib.Core.Bool.{true, false}
 use mathlib.Core.List.{List, [], _++_, map, flatMap}
 use Prim.Native.Nat.{ℕ, _+_, _*_, _-_}
 use lib.Dec.{eqb, leb, ltb}
 use lib.IntN.{ℤ, pos}
-use lib.ListN.{getD, take, drop, replicate}
+use lib.ListN.{length, getD, take, drop, replicate}
 use Rattle.nest.specs.declared.LoopNest.{LoopNest}
 use Rattle.nest.specs.Nest.{padded, emptyNest, maxDepth, maxDependences}
-use Rattle.nest.specs.Nest.{withLimits, withTimes, withDependences, withBoundary, withWeights}
+use Rattle.nest.specs.Nest.{withLimits, withTimes, withDependences, withBoundaries, withWeights}
 use Rattle.nest.specs.Refusals.{firstMet, headerOrder, orElse}
 use Rattle.nest_text.specs.declared.Reading.{Reading}
 use Rattle.nest_text.specs.declared.reader.Line.{Line}
 use Rattle.nest_text.specs.declared.reader.Body.{Body}
 use Rattle.nest_text.specs.Fields.{Bytes}
-use Rattle.nest_text.specs.Text.{at, isLine, numbersOf, lineNumbers, shapes, fits, firstFitting}
-use Rattle.nest_text.specs.Text.{isHeaded, headerOf, nestFrom, malformedUnless}
+use Rattle.nest_text.specs.Text.{at, differ, bodyLength, isLine, numbersOf, lineNumbers, shortWidth, longWidth}
+use Rattle.nest_text.specs.Text.{shapes, fits, firstFitting, isHeaded, headerOf, boundariesIn, weightsIn}
+use Rattle.nest_text.specs.Text.{nestFrom, malformedUnless}
 
--- the most fields that a line has: the boundary value and the weights
+-- the most fields that a line has: the boundary values and the weights
 abbrev pub maxFields : ℕ
-maxFields = maxDependences + 1
+maxFields = longWidth maxDependences
 
 -- a line of k fields: whether it is in form, and then its numbers, with 0 in every other place
 unfoldable pub lineOf : ℕ → Bytes → Line
@@ -55,17 +56,29 @@ unfoldable pub withDependenceLine : LoopNest → ℕ → List ℤ → LoopNest
 withDependenceLine s i row = withDependences s
     (take (i * maxDepth) (s .dependences) ++ (take maxDepth row ++ drop (i * maxDepth + maxDepth) (s .dependences)))
 
--- the boundary value and the weights
-unfoldable pub withLastLine : LoopNest → List ℤ → LoopNest
-withLastLine s row = withWeights (withBoundary s (at row 0)) (take maxDependences (drop 1 row))
+-- the boundary values that a last line of k numbers says for m dependences
+unfoldable pub withBoundaryLine : ℕ → ℕ → LoopNest → List ℤ → LoopNest
+withBoundaryLine m k s row = withBoundaries s (boundariesIn m k row ++ drop m (s .boundaries))
 
--- line i, counted from 0, of those behind line 1
-unfoldable pub withLine : ℕ → ℕ → LoopNest → ℕ → List ℤ → LoopNest
-withLine n m s i row = elim (ltb i n) [
+-- the boundary values and the weights
+unfoldable pub withLastLine : ℕ → ℕ → LoopNest → List ℤ → LoopNest
+withLastLine m k s row = withWeights (withBoundaryLine m k s row) (take maxDependences (weightsIn m k row))
+
+-- how many fields the last line has, by the number of bytes behind line 1: it is told by its own
+-- length, since the other lines are as long in either shape
+unfoldable pub lastWidth : ℕ → ℕ → ℕ → ℕ
+lastWidth n m bytes = elim (eqb bytes (bodyLength n m (shortWidth m))) [
+  | true ↦ shortWidth m
+  | false ↦ longWidth m
+]
+
+-- line i, counted from 0, of those behind line 1, of which the last has k fields
+unfoldable pub withLine : ℕ → ℕ → ℕ → LoopNest → ℕ → List ℤ → LoopNest
+withLine n m k s i row = elim (ltb i n) [
   | true ↦ withLimitLine s i row
   | false ↦ elim (eqb i n) [
     | true ↦ withTimeLine s row
-    | false ↦ elim (leb i (n + m)) [ true ↦ withDependenceLine s (i - (n + 1)) row | false ↦ withLastLine s row ]
+    | false ↦ elim (leb i (n + m)) [ true ↦ withDependenceLine s (i - (n + 1)) row | false ↦ withLastLine m k s row ]
   ]
 ]
 
@@ -81,9 +94,13 @@ filled n m c ls =
       upper = padded maxDepth (map (λ l. at l 1) (take n ls));
       time = padded maxDepth (getD ls n []);
       dependences = padded (maxDepth * maxDependences) (flatMap (padded maxDepth) (take m (drop (n + 1) ls)));
-      boundary = at last 0;
-      weights = padded maxDependences (drop 1 last);
+      boundaries = padded maxDependences (boundariesIn m (length last) last);
+      weights = padded maxDependences (weightsIn m (length last) last);
     }
+
+-- how many of these boundary values are written: one where they are all equal
+unfoldable pub valueCount : List ℤ → ℕ
+valueCount zs = elim (differ zs) [ true ↦ length zs | false ↦ 1 ]
 
 -- the lines behind line 1: whether all are in form, and then their nest
 unfoldable pub bodyRead : ℕ → ℕ → ℤ → Bytes → Body

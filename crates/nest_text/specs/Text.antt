@@ -1,16 +1,17 @@
--- The text of a loop nest (document 01, "The sheet"): what is written for a nest, and what a text
--- is read as, with its refusals in the document's order.
+-- The text of a loop nest (document 01, "The sheet"; document 02, U1, for its last line): what is
+-- written for a nest, and what a text is read as, with its refusals in the document's order.
 -- Assumes nothing.
 use mathlib.Core.Path.{_≡_}
 use mathlib.Core.Bool.{Bool, true, false, not, _&&_}
 use mathlib.Core.List.{List, [], _∷_, _++_, map, flatMap}
-use Prim.Native.Nat.{ℕ, _+_, _*_, _<_}
+use Prim.Native.Nat.{ℕ, _+_, _*_, _-_, _<_}
 use lib.Dec.{eqb}
 use lib.IntN.{ℤ, pos}
 use lib.ListN.{length, getD, take, drop, replicate}
 use Rattle.integers.specs.Lists.{any, first, tab}
+use Rattle.integers.specs.Vector.{eqZ}
 use Rattle.nest.specs.declared.LoopNest.{LoopNest}
-use Rattle.nest.specs.Nest.{Limit, depthOf, countOf, limitsOf, timeOf, dependencesOf, weightsOf}
+use Rattle.nest.specs.Nest.{Limit, depthOf, countOf, limitsOf, timeOf, dependencesOf, boundariesOf, weightsOf}
 use Rattle.nest.specs.Nest.{nestOf, emptyNest, maxDepth, maxDependences}
 use Rattle.nest.specs.Refusals.{firstMet, headerOrder, bodyOrder, refusal, Order, nestOrder}
 use Rattle.nest.specs.Refusals.{orElse, shortBuffer, tableAfter}
@@ -38,20 +39,51 @@ headerWidth = 3
 abbrev pub limitWidth : ℕ
 limitWidth = 2
 
--- the numbers of the lines of a nest
-unfoldable pub linesOf : LoopNest → List (List ℤ)
-linesOf s =
+-- number i of a line; 0 where it has none
+abbrev pub at : List ℤ → ℕ → ℤ
+at zs i = getD zs i (pos 0)
+
+-- the short last line: one boundary value for all dependences, then the weights
+abbrev pub shortLast : LoopNest → List ℤ
+shortLast s = at (boundariesOf s) 0 ∷ weightsOf s
+
+-- the long one: a boundary value for each dependence, then the weights
+abbrev pub longLast : LoopNest → List ℤ
+longLast s = boundariesOf s ++ weightsOf s
+
+-- one of the numbers is another than the first
+unfoldable pub differ : List ℤ → Bool
+differ zs = any (λ z. not (eqZ z (at zs 0))) zs
+
+-- the last line that is written: the long one, unless all boundary values are equal
+unfoldable pub lastOf : LoopNest → List ℤ
+lastOf s = elim (differ (boundariesOf s)) [ true ↦ longLast s | false ↦ shortLast s ]
+
+-- the numbers of the lines of a nest, with this last line
+unfoldable pub linesWith : LoopNest → List ℤ → List (List ℤ)
+linesWith s last =
     (s .depth ∷ s .count ∷ s .cube ∷ [])
-    ∷ (map (λ l. l .lower ∷ l .upper ∷ []) (limitsOf s)
-    ++ (timeOf s ∷ (dependencesOf s ++ ((s .boundary ∷ weightsOf s) ∷ []))))
+    ∷ (map (λ l. l .lower ∷ l .upper ∷ []) (limitsOf s) ++ (timeOf s ∷ (dependencesOf s ++ (last ∷ []))))
+
+-- those that are written for it
+abbrev pub linesOf : LoopNest → List (List ℤ)
+linesOf s = linesWith s (lastOf s)
 
 -- its lines, one after the other
-unfoldable pub textOf : LoopNest → Bytes
-textOf s = flatMap line (linesOf s)
+unfoldable pub textWith : LoopNest → List ℤ → Bytes
+textWith s last = flatMap line (linesWith s last)
 
--- how many bytes the text of an accepted nest of n loops with m dependences has
-abbrev pub textLength : ℕ → ℕ → ℕ
-textLength n m = lineLength headerWidth + lineLength limitWidth * n + lineLength n * (m + 1) + lineLength (m + 1)
+-- what is written for it
+abbrev pub textOf : LoopNest → Bytes
+textOf s = textWith s (lastOf s)
+
+-- how many bytes n lines of limits, the time vector, m dependences and a last line of k fields have
+abbrev pub bodyLength : ℕ → ℕ → ℕ → ℕ
+bodyLength n m k = lineLength limitWidth * n + lineLength n * (m + 1) + lineLength k
+
+-- and how many with line 1
+abbrev pub textLength : ℕ → ℕ → ℕ → ℕ
+textLength n m k = lineLength headerWidth + bodyLength n m k
 
 -- ---- lines read
 
@@ -91,10 +123,6 @@ unfoldable pub lineNumbers : List ℕ → Bytes → List (List ℤ)
 lineNumbers [] bs = []
 lineNumbers (k ∷ ks) bs = numbersOf k bs ∷ lineNumbers ks (behind k bs)
 
--- number i of a line; 0 where it has none
-abbrev pub at : List ℤ → ℕ → ℤ
-at zs i = getD zs i (pos 0)
-
 -- ---- the form of a text: the numbers of fields that its lines may have
 
 -- those that line 1 may have
@@ -105,13 +133,21 @@ headerWidths = headerWidth ∷ []
 abbrev pub Shape : Type 0
 Shape = List ℕ
 
--- n lines of limits, the time vector, m dependences, and the boundary value with m weights
-unfoldable pub widths : ℕ → ℕ → Shape
-widths n m = replicate n limitWidth ++ (n ∷ (replicate m n ++ ((1 + m) ∷ [])))
+-- n lines of limits, the time vector, m dependences, and a last line of k fields
+unfoldable pub widths : ℕ → ℕ → ℕ → Shape
+widths n m k = replicate n limitWidth ++ (n ∷ (replicate m n ++ (k ∷ [])))
+
+-- the fields of a last line with one boundary value for all m dependences, and then m weights
+abbrev pub shortWidth : ℕ → ℕ
+shortWidth m = 1 + m
+
+-- with one for each
+abbrev pub longWidth : ℕ → ℕ
+longWidth m = m + m
 
 -- the shapes that the text of n loops with m dependences may have
 unfoldable pub shapes : ℕ → ℕ → List Shape
-shapes n m = widths n m ∷ []
+shapes n m = widths n m (shortWidth m) ∷ widths n m (longWidth m) ∷ []
 
 -- those that the numbers of line 1, as a nest, allow
 abbrev pub shapesOf : LoopNest → List Shape
@@ -149,7 +185,7 @@ headed zs = record {
   upper = replicate maxDepth (pos 0);
   time = replicate maxDepth (pos 0);
   dependences = replicate (maxDepth * maxDependences) (pos 0);
-  boundary = pos 0;
+  boundaries = replicate maxDependences (pos 0);
   weights = replicate maxDependences (pos 0);
 }
 
@@ -171,13 +207,23 @@ isShaped bs = fits (shapesOf (headerOf bs)) (restOf bs)
 unfoldable pub bodyNumbers : Bytes → List (List ℤ)
 bodyNumbers bs = lineNumbers (firstFitting (shapesOf (headerOf bs)) (restOf bs)) (restOf bs)
 
+-- the boundary values of m dependences that a last line of k numbers says: one for all where it is
+-- a short line, one for each otherwise
+unfoldable pub boundariesIn : ℕ → ℕ → List ℤ → List ℤ
+boundariesIn m k zs = elim (eqb k (shortWidth m)) [ true ↦ replicate m (at zs 0) | false ↦ take m zs ]
+
+-- the weights, which are its last m numbers
+abbrev pub weightsIn : ℕ → ℕ → List ℤ → List ℤ
+weightsIn m k zs = drop (k - m) zs
+
 -- the nest of n loops with m dependences and cube dimension c whose lines behind line 1 hold these
 -- numbers
 unfoldable pub nestFrom : ℕ → ℕ → ℤ → List (List ℤ) → LoopNest
 nestFrom n m c ls =
     let limits : List Limit = map (λ l. record { lower = at l 0; upper = at l 1 }) (take n ls) in
     let last = getD ls (n + 1 + m) [] in
-    nestOf c limits (getD ls n []) (take m (drop (n + 1) ls)) (at last 0) (drop 1 last)
+    nestOf c limits (getD ls n []) (take m (drop (n + 1) ls)) (boundariesIn m (length last) last)
+    (weightsIn m (length last) last)
 
 -- what the whole text says, where it is in form
 unfoldable pub bodyOf : Bytes → LoopNest
@@ -204,7 +250,7 @@ readNest bs = elim (eqb (readRefusal bs) 0) [ true ↦ bodyOf bs | false ↦ emp
 -- the bytes that are looked at: the longest text, and one more
 -- (proofs/ReadPrefix.antt: those behind them change nothing)
 abbrev pub readMost : ℕ
-readMost = textLength maxDepth maxDependences + 1
+readMost = textLength maxDepth maxDependences (longWidth maxDependences) + 1
 
 -- ---- writing into a lent buffer: a call that is refused with a number, or not if it is 0, and has
 -- these bytes to write

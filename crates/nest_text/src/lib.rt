@@ -1,5 +1,6 @@
 // The text of a loop nest (document 01, "The sheet"): read from bytes, written into a lent buffer.
 mod fields;
+mod lengths;
 mod reader;
 mod writer;
 
@@ -89,14 +90,16 @@ pub fn write(s: LoopNest, out: &mut [u8]) -> Writing
     }
     let n = nest::to_size(s.depth);
     let m = nest::to_size(s.count);
-    let length = writer::text_length(n, m);
+    let boundaries = s.boundaries;
+    let values = lengths::value_count(boundaries, m);
+    let length = lengths::text_length(n, m, values + m);
     if out.len() < length {
         return Writing {
             refusal: SHORT_BUFFER,
             length: 0,
         };
     }
-    writer::put_text(s, n, m, out);
+    writer::put_text(s, n, m, values, out);
     Writing {
         refusal: 0,
         length: length,

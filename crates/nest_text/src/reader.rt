@@ -7,6 +7,7 @@ use crate::NEWLINE;
 use crate::Reading;
 use crate::fields;
 use crate::fields::Field;
+use crate::lengths::last_width;
 use crate::refused;
 use nest::LoopNest;
 ghost use mathlib.Core.Path.{_≡_};
@@ -16,9 +17,10 @@ ghost use Prim.Native.Nat.{_+_, _<_, _≤_};
 ghost use lib.IntN.{pos};
 ghost use lib.ListN.{getD, replicate};
 ghost use Rattle.nest.specs.Nest.{emptyNest, maxDepth, maxDependences};
-ghost use Rattle.nest_text.specs.Text.{widths};
+ghost use Rattle.nest_text.specs.Text.{widths, boundariesIn};
 ghost use Rattle.nest_text.specs.Reader.{maxFields, lineOf, headerRead, bodyRead};
-ghost use Rattle.nest_text.specs.Reader.{withTimeLine, withDependenceLine, withLastLine, withLine, filled};
+ghost use Rattle.nest_text.specs.Reader.{withTimeLine, withDependenceLine, withBoundaryLine, withLastLine};
+ghost use Rattle.nest_text.specs.Reader.{withLine, filled};
 
 // A line of numbers: whether it is in form, and then its numbers, with 0 in every place that has no
 // field.
@@ -28,8 +30,8 @@ pub struct Line {
 }
 
 impl Line {
-    // the boundary value and the weights
-    pub const MAX_FIELDS: usize = LoopNest::MAX_DEPENDENCES + 1;
+    // the boundary values and the weights
+    pub const MAX_FIELDS: usize = LoopNest::MAX_DEPENDENCES + LoopNest::MAX_DEPENDENCES;
 }
 
 // The lines behind line 1: whether all are in form, and then their nest.
@@ -128,28 +130,52 @@ pub fn with_dependence_line(s: LoopNest, i: usize, row: [i64; Line::MAX_FIELDS])
     t
 }
 
-// The nest with its boundary value and weights.
-pub fn with_last_line(s: LoopNest, row: [i64; Line::MAX_FIELDS]) -> LoopNest
-    ensures { λ r. ⌜ r ≡ withLastLine s row ⌝ }
+// The boundary value of dependence i that a last line of k numbers says: the first number for all
+// of m dependences, or one for each.
+pub fn boundary_in(m: usize, k: usize, row: [i64; Line::MAX_FIELDS], i: usize) -> i64
+    requires { ⌜ (m ≤ maxDependences) × (i < m) ⌝ }
+    ensures { λ r. ⌜ r ≡ getD (boundariesIn m k row) i (pos 0) ⌝ }
 {
-    let mut t = s.with_boundary(row[0]);
+    if k == 1 + m { row[0] } else { row[i] }
+}
+
+// The nest with the boundary values of its m dependences, of a last line of k numbers.
+pub fn with_boundary_line(s: LoopNest, m: usize, k: usize, row: [i64; Line::MAX_FIELDS]) -> LoopNest
+    requires { ⌜ m ≤ maxDependences ⌝ }
+    ensures { λ r. ⌜ r ≡ withBoundaryLine m k s row ⌝ }
+{
+    let mut t = s;
+    for i in 0..m {
+        let value = boundary_in(m, k, row, i);
+        t = t.with_boundary(i, value);
+    }
+    t
+}
+
+// The nest with its boundary values and weights, of a last line of k numbers.
+pub fn with_last_line(s: LoopNest, m: usize, k: usize, row: [i64; Line::MAX_FIELDS]) -> LoopNest
+    requires { ⌜ (m ≤ maxDependences) × (m ≤ k) × (k ≤ m + maxDependences) ⌝ }
+    ensures { λ r. ⌜ r ≡ withLastLine m k s row ⌝ }
+{
+    let mut t = with_boundary_line(s, m, k, row);
     for i in 0..LoopNest::MAX_DEPENDENCES {
-        t = t.with_weight(i, row[i + 1]);
+        t = t.with_weight(i, row[k - m + i]);
     }
     t
 }
 
 // The nest of n loops and m dependences with the numbers of line i, counted from 0, of those behind
-// line 1.
+// line 1, of which the last has k.
 pub fn with_line(
     s: LoopNest,
     n: usize,
     m: usize,
+    k: usize,
     i: usize,
     row: [i64; Line::MAX_FIELDS],
 ) -> LoopNest
-    requires { ⌜ (n ≤ maxDepth) × (m ≤ maxDependences) ⌝ }
-    ensures { λ r. ⌜ r ≡ withLine n m s i row ⌝ }
+    requires { ⌜ (n ≤ maxDepth) × (m ≤ maxDependences) × (m ≤ k) × (k ≤ m + maxDependences) ⌝ }
+    ensures { λ r. ⌜ r ≡ withLine n m k s i row ⌝ }
 {
     if i < n {
         return s.with_limits(i, row[0], row[1]);
@@ -160,20 +186,20 @@ pub fn with_line(
     if i <= n + m {
         return with_dependence_line(s, i - (n + 1), row);
     }
-    with_last_line(s, row)
+    with_last_line(s, m, k, row)
 }
 
-// How many fields line i has, counted from 0 behind line 1.
-pub fn width(n: usize, m: usize, i: usize) -> usize
-    requires { ⌜ (n ≤ maxDepth) × (m ≤ maxDependences) × (i < n + 1 + m + 1) ⌝ }
-    ensures { λ r. ⌜ (r ≡ getD (widths n m) i 0) × (r ≤ maxFields) ⌝ }
+// How many fields line i has, counted from 0 behind line 1, where the last has k.
+pub fn width(n: usize, m: usize, k: usize, i: usize) -> usize
+    requires { ⌜ (n ≤ maxDepth) × (m ≤ maxDependences) × (k ≤ maxFields) × (i < n + 1 + m + 1) ⌝ }
+    ensures { λ r. ⌜ (r ≡ getD (widths n m k) i 0) × (r ≤ maxFields) ⌝ }
 {
     if i < n {
         LIMIT_FIELDS
     } else if i <= n + m {
         n
     } else {
-        1 + m
+        k
     }
 }
 
@@ -183,16 +209,17 @@ pub fn read_body(text: &[u8], header: LoopNest, n: usize, m: usize) -> Body
     requires { ⌜ (n ≤ maxDepth) × (m ≤ maxDependences) × (header ≡ filled n m (header .cube) []) ⌝ }
     ensures { λ r. ⌜ r ≡ bodyRead n m (header .cube) (now (text .entry)) ⌝ }
 {
+    let last = last_width(n, m, text.len());
     let mut s = header;
     let mut at = 0;
     for i in 0..n + 1 + m + 1 {
-        let k = width(n, m, i);
+        let k = width(n, m, last, i);
         let line = read_line(&text[at..], k);
         if !line.ok {
             return no_body();
         }
         let row = line.numbers;
-        s = with_line(s, n, m, i, row);
+        s = with_line(s, n, m, last, i, row);
         at = at + (COLUMNS * k + 1);
     }
     if at != text.len() {

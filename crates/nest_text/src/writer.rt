@@ -6,15 +6,16 @@ use crate::NEWLINE;
 use crate::fields::write_at;
 use nest::LoopNest;
 ghost use mathlib.Core.Path.{_≡_};
-ghost use mathlib.Core.List.{[], _∷_, flatMap};
+ghost use mathlib.Core.List.{[], _∷_, _++_, flatMap};
 ghost use Prim.Native.Nat.{ℕ, _+_, _*_, _<_, _≤_};
 ghost use lib.IntN.{pos};
 ghost use lib.ListN.{length, getD};
 ghost use Rattle.integers.specs.Lists.{tab};
-ghost use Rattle.nest.specs.Nest.{part, dependenceAt, depthOf, countOf, maxDepth, maxDependences};
+ghost use Rattle.nest.specs.Nest.{part, dependenceAt, depthOf, countOf, boundariesOf, maxDepth, maxDependences};
 ghost use Rattle.nest.specs.Refusals.{refusal};
 ghost use Rattle.nest_text.specs.Fields.{columns, fieldOf};
-ghost use Rattle.nest_text.specs.Text.{line, textOf, limitWidth, lineLength, textLength};
+ghost use Rattle.nest_text.specs.Text.{line, textOf, limitWidth, lineLength};
+ghost use Rattle.nest_text.specs.Reader.{valueCount};
 ghost use Rattle.nest_text.specs.Stored.{Stored, InColumns, EachInColumns};
 
 // Writes k numbers as fields, one after the other, and answers the place behind them.
@@ -88,39 +89,31 @@ pub fn put_dependences(
     end
 }
 
-// Writes the last line: the boundary value and m weights.
+// Writes the last line: so many boundary values, and m weights.
 pub fn put_last(
     out: &mut [u8],
     at: usize,
-    boundary: i64,
+    boundaries: [i64; LoopNest::MAX_DEPENDENCES],
+    values: usize,
     weights: [i64; LoopNest::MAX_DEPENDENCES],
     m: usize,
 ) -> usize
-    requires { ⌜ (at + lineLength (m + 1) ≤ length (now out))
-        × ((m ≤ maxDependences) × (InColumns boundary × EachInColumns weights 0 m)) ⌝ }
-    ensures { λ r. ⌜ Stored (now (out .entry)) at (line (boundary ∷ part weights 0 m)) (now (out .exit)) r ⌝ }
+    requires { ⌜ (at + lineLength (values + m) ≤ length (now out))
+        × ((values ≤ maxDependences) × ((m ≤ maxDependences)
+        × (EachInColumns boundaries 0 values × EachInColumns weights 0 m))) ⌝ }
+    ensures { λ r. ⌜ Stored (now (out .entry)) at (line (part boundaries 0 values ++ part weights 0 m))
+        (now (out .exit)) r ⌝ }
 {
-    write_at(out, at, boundary);
-    put_line(out, at + COLUMNS, &weights, 0, m)
+    let weights_at = put_fields(out, at, &boundaries, 0, values);
+    put_line(out, weights_at, &weights, 0, m)
 }
 
-// How many bytes the text of an accepted nest of n loops with m dependences has.
-pub fn text_length(n: usize, m: usize) -> usize
-    requires { ⌜ (n ≤ maxDepth) × (m ≤ maxDependences) ⌝ }
-    ensures { λ r. ⌜ r ≡ textLength n m ⌝ }
-{
-    let first = COLUMNS * HEADER_FIELDS + 1;
-    let limits = (COLUMNS * LIMIT_FIELDS + 1) * n;
-    let vectors = (COLUMNS * n + 1) * (m + 1);
-    let last = COLUMNS * (m + 1) + 1;
-    first + limits + vectors + last
-}
-
-// Writes the text of an accepted nest of n loops with m dependences from the buffer's first byte
-// on.
-pub fn put_text(s: LoopNest, n: usize, m: usize, out: &mut [u8])
+// Writes the text of an accepted nest of n loops with m dependences, of whose boundary values so
+// many are written, from the buffer's first byte on.
+pub fn put_text(s: LoopNest, n: usize, m: usize, values: usize, out: &mut [u8])
     requires { ⌜ (refusal s ≡ 0)
-        × ((n ≡ depthOf s) × ((m ≡ countOf s) × (length (textOf s) ≤ length (now out)))) ⌝ }
+        × ((n ≡ depthOf s) × ((m ≡ countOf s) × ((values ≡ valueCount (boundariesOf s))
+        × (length (textOf s) ≤ length (now out))))) ⌝ }
     ensures { λ r. ⌜ Stored (now (out .entry)) 0 (textOf s) (now (out .exit)) (length (textOf s)) ⌝ }
 {
     let shape = [s.depth, s.count, s.cube];
@@ -132,6 +125,7 @@ pub fn put_text(s: LoopNest, n: usize, m: usize, out: &mut [u8])
     let dependences_at = put_line(out, time_at, &time, 0, n);
     let dependences = s.dependences;
     let last_at = put_dependences(out, dependences_at, dependences, n, m);
+    let boundaries = s.boundaries;
     let weights = s.weights;
-    put_last(out, last_at, s.boundary, weights, m);
+    put_last(out, last_at, boundaries, values, weights, m);
 }

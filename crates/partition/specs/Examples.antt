@@ -89,10 +89,10 @@ byHand c = c .steps ∷ (c .number ∷ []) ∷ c .above ∷ []
 unfoldable pub vector : List ℕ → Vector
 vector = map pos
 
--- 0..u for each upper limit u; boundary value and weights 1
+-- 0..u for each upper limit u; boundary values and weights 1
 unfoldable pub nestWith : List ℕ → Vector → List Vector → ℕ → LoopNest
-nestWith us P ds c = nestOf (pos c) (map (λ u. record { lower = pos 0; upper = pos u }) us) P ds (pos 1)
-    (map (λ d. pos 1) ds)
+nestWith us P ds c = nestOf (pos c) (map (λ u. record { lower = pos 0; upper = pos u }) us) P ds
+    (map (λ d. pos 1) ds) (map (λ d. pos 1) ds)
 
 -- 000's loop L1
 unfoldable pub L1 : ℕ → LoopNest

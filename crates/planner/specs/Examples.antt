@@ -1,8 +1,8 @@
 -- Serves as examples: P1 to P10 of document 01 ("Mixes to try"), the counts of 000's loops L1 and
--- L2, and three nests worked out by hand, as one table; `examples-hold` checks all of it on the
+-- L2, and four nests worked out by hand, as one table; `examples-hold` checks all of it on the
 -- definitions, by computation. Where a case is silent: limits 0..3, time vector of ones, cube
--- dimension 0, boundary value and weights 1, and the dependence is 1 in the innermost loop. Assumes
--- nothing.
+-- dimension 0, boundary values and weights 1, and the dependence is 1 in the innermost loop.
+-- Assumes nothing.
 use mathlib.Core.Path.{_≡_, refl}
 use mathlib.Core.Bool.{Bool, true, false, _&&_}
 use mathlib.Core.List.{List, [], _∷_, map, flatMap, zipWith}
@@ -16,14 +16,16 @@ use Rattle.integers.specs.Lists.{firstFrom, total}
 use Rattle.integers.specs.Vector.{Vector, dots, plus, times, eqZ, eqV, isZeroV}
 use Rattle.integers.specs.Division.{floorDiv}
 use Rattle.nest.specs.declared.LoopNest.{LoopNest}
-use Rattle.nest.specs.Nest.{toℕ, part, limitsOf, timeOf, dependencesOf, weightsOf, padded, nestOf, emptyNest, countOf}
+use Rattle.nest.specs.Nest.{toℕ, part, limitsOf, timeOf, dependencesOf, boundariesOf, weightsOf, padded, nestOf}
+use Rattle.nest.specs.Nest.{emptyNest, countOf}
 use Rattle.nest.specs.Points.{extent, indices, points, pointsOf, pointCount, rank, isPoint, source}
 use Rattle.nest.specs.Refusals.{number, outside, crossed, outOfSpan, backward, against, holds, firstMet}
 use Rattle.nest.specs.Refusals.{refusal, orElse}
 use Rattle.nest.specs.Sources.{sourceRank}
 use Rattle.nest_text.specs.Fields.{Bytes, blanksOf, allDigits, valueOf, digitsOf, signedOf, readOf, digitsTo, numeralOf}
 use Rattle.nest_text.specs.Fields.{fieldOf}
-use Rattle.nest_text.specs.Text.{line, linesOf, textOf, isLine, numbersOf, areLines, lineNumbers, widths, shapes, fits}
+use Rattle.nest_text.specs.Text.{line, differ, lastOf, linesWith, textWith, textOf, boundariesIn}
+use Rattle.nest_text.specs.Text.{isLine, numbersOf, areLines, lineNumbers, widths, shapes, fits}
 use Rattle.nest_text.specs.Text.{firstFitting, isHeaded, headerWidthOf, headerNumbers, headed, headerOf, restOf}
 use Rattle.nest_text.specs.Text.{isShaped, bodyNumbers, nestFrom, bodyOf, readRefusal, readNest}
 use Rattle.nest_text.specs.Examples.{bytes, lines}
@@ -149,12 +151,16 @@ uneven = nestWith (1 ∷ 5 ∷ 4 ∷ []) (vector (1 ∷ 0 ∷ 0 ∷ []))
 unfoldable pub rowOf64 : LoopNest
 rowOf64 = nestWith (0 ∷ 63 ∷ []) (vector (1 ∷ 0 ∷ [])) (vector (1 ∷ 0 ∷ []) ∷ []) 6
 
--- document 01's listing in full
-unfoldable pub listed : LoopNest
-listed =
+-- the nest of document 01's listing, with these boundary values
+unfoldable pub listedWith : List ℕ → LoopNest
+listedWith values =
     nestOf (pos 1) (record { lower = pos 0; upper = pos 1 } ∷ record { lower = pos 0; upper = pos 2 } ∷ [])
     (vector (1 ∷ 1 ∷ []))
-    (vector (0 ∷ 1 ∷ []) ∷ vector (1 ∷ 0 ∷ []) ∷ []) (pos 1) (vector (2 ∷ 3 ∷ []))
+    (vector (0 ∷ 1 ∷ []) ∷ vector (1 ∷ 0 ∷ []) ∷ []) (vector values) (vector (2 ∷ 3 ∷ []))
+
+-- document 01's listing in full: one boundary value for both dependences
+unfoldable pub listed : LoopNest
+listed = listedWith (1 ∷ 1 ∷ [])
 
 unfoldable pub listedText : Bytes
 listedText = lines ("     2     2     1" ∷ "     0     1" ∷ "     0     2" ∷ "     1     1" ∷ "     0     1"
@@ -172,6 +178,29 @@ listedPlan =
     ∷ "     5     3     0     0   276"
     ∷ [])
 
+-- The same nest with a boundary value for each dependence (document 02, U1), 1 along (0,1) and 9
+-- along (1,0). By hand, rank + 2 × what (0,1) reads + 3 × what (1,0) reads: 0 + 2·1 + 3·9 = 29,
+-- where both sources are outside; 1 + 2·29 + 3·9 = 86; 2 + 2·86 + 3·9 = 201; 3 + 2·1 + 3·29 = 92;
+-- 4 + 2·92 + 3·86 = 446; 5 + 2·446 + 3·201 = 1500. Steps, blocks and processors are as before.
+unfoldable pub apart : LoopNest
+apart = listedWith (1 ∷ 9 ∷ [])
+
+unfoldable pub apartText : Bytes
+apartText = lines ("     2     2     1" ∷ "     0     1" ∷ "     0     2" ∷ "     1     1" ∷ "     0     1"
+    ∷ "     1     0" ∷ "     1     9     2     3" ∷ [])
+
+unfoldable pub apartPlan : Bytes
+apartPlan =
+    lines (
+    "     6     4     3     2     2"
+    ∷ "     0     0     0     0    29"
+    ∷ "     1     1     0     0    86"
+    ∷ "     2     2     1     1   201"
+    ∷ "     3     1     2     0    92"
+    ∷ "     4     2     0     0   446"
+    ∷ "     5     3     0     0  1500"
+    ∷ [])
+
 unfoldable pub table : List Case
 table =
     -- P1
@@ -179,6 +208,8 @@ table =
     ∷ record { nest = L1 2; facts = answer 0 ∷ blockProcessors (3 ∷ 2 ∷ 1 ∷ 0 ∷ []) ∷ [] }
     -- P2
     ∷ record { nest = listed; facts = answer 0 ∷ printed listedText listedPlan ∷ [] }
+    -- P2 with two boundary values
+    ∷ record { nest = apart; facts = answer 0 ∷ printed apartText apartPlan ∷ [] }
     -- P3
     ∷ record {
       nest = one 0;
@@ -264,11 +295,13 @@ table =
 
 pub examples-hold : all (λ c. all (says (c .nest)) (c .facts)) table ≡ true
 unfolding any all first place firstsAfter firsts count repeats tab greatest firstFrom dots plus times eqZ eqV
-    isZeroV floorDiv toℕ part limitsOf timeOf dependencesOf weightsOf padded nestOf emptyNest extent indices points
-    pointsOf pointCount rank isPoint source number outside crossed outOfSpan backward against holds firstMet refusal
-    orElse sourceRank blanksOf allDigits valueOf digitsOf signedOf readOf digitsTo numeralOf fieldOf line linesOf
-    isLine numbersOf areLines lineNumbers widths shapes fits firstFitting isHeaded headerWidthOf headerNumbers
-    headed headerOf restOf isShaped bodyNumbers nestFrom bodyOf readRefusal readNest textOf bytes lines projection
+    isZeroV floorDiv toℕ part limitsOf timeOf dependencesOf boundariesOf weightsOf padded nestOf emptyNest extent
+    indices points pointsOf pointCount rank isPoint source number outside crossed outOfSpan backward against holds
+    firstMet refusal
+    orElse sourceRank blanksOf allDigits valueOf digitsOf signedOf readOf digitsTo numeralOf fieldOf line differ
+    lastOf linesWith textWith isLine numbersOf areLines lineNumbers widths shapes fits firstFitting isHeaded
+    headerWidthOf headerNumbers
+    headed headerOf restOf isShaped bodyNumbers boundariesIn nestFrom bodyOf readRefusal readNest bytes lines projection
     divides makesWhole multiplier groupSize leastZ distinctProducts step stepNumber pivot clear remainder mayGroup
     groupingVector extend chosenVectors chosenCount latest coefficients left isCombination frame directions
     difference sameClass coordinates seeds eqG quotients classNumber group blocks blockNumber stepsOf stepCount
@@ -276,5 +309,5 @@ unfolding any all first place firstsAfter firsts count repeats tab greatest firs
     dealBit dealBits dealt gray partOf joined processor directionsOf processorsOf processorCount crosses isMessage
     total messageCount sourceValue madeOf loop sequential weightedSum ruleOf valuesOf countsOf rowOf planLines
     planText listing eqN below isSome pairs says vector nestWith L1 L2 two one ungrouped uneven rowOf64 grayCodes
-    listed listedText listedPlan table flatMap zipWith
+    listedWith listed listedText listedPlan apart apartText apartPlan table flatMap zipWith
 examples-hold = refl

@@ -1,6 +1,7 @@
 -- Demand 2: what holds of the tables and counts that an accepted call of `plan` left, and of a nest that is read and written.
 -- Assumes nothing.
 use mathlib.Core.Path.{_≡_, refl, sym, ap, ap₂, subst, _∙_}
+use mathlib.Core.Logic.{_⊎_, inl, inr}
 use mathlib.Core.List.{List, _++_}
 use Prim.Native.Nat.{ℕ, _+_, _*_, _^_, _<_, _≤_}
 use native.Mathlib.Omega.{arith}
@@ -38,16 +39,18 @@ use Rattle.execution.proofs.Answers.{move-answered}
 use Rattle.nest_text.specs.Fields.{Bytes}
 use Rattle.nest_text.specs.declared.Reading.{Reading}
 use Rattle.nest_text.specs.declared.Writing.{Writing}
-use Rattle.nest_text.specs.Text.{textOf, readRefusal, readNest, writeRefusal, writeOrder, Puts, Writes}
+use Rattle.nest_text.specs.Text.{shortLast, textWith, textOf, readRefusal, readNest, writeRefusal, writeOrder, Puts}
+use Rattle.nest_text.specs.Text.{Writes}
+use Rattle.nest_text.specs.Form.{LongEqual}
 use Rattle.nest_text.specs.Form.{readOrder}
 use Rattle.nest_text.proofs.Answers.{read-answered, write-answered}
 use Rattle.rows.specs.declared.Span.{Span}
 use Rattle.rows.specs.Rows.{rowRefusal, rowOrder}
 use Rattle.rows.proofs.SpanLaws.{span-refusal}
 use Rattle.rows.proofs.Answers.{row-answered}
-use Rattle.nest_text.proofs.RoundTrip.{read-written, written-read}
+use Rattle.nest_text.proofs.RoundTrip.{reads-as, read-written, written-read, written-shorter}
 use Rattle.nest_text.proofs.WriteAnswers.{put-number, put-length, put-bytes, put-first, put-room}
-use Rattle.promises.specs.Demand2.{at, IsPlan, SameText, Exactly, Conditions, Demand2}
+use Rattle.promises.specs.Demand2.{at, IsPlan, Wrote, SameText, Exactly, Conditions, Demand2}
 
 -- ---- a plan
 module _ (s : LoopNest) (old : Tables) (p : Planning) (t : Tables) (P : Plans s old p t) (z : p .refusal ≡ 0) where
@@ -146,8 +149,32 @@ module _ (s : LoopNest) (old : Tables) (p : Planning) (t : Tables) (P : Plans s 
   }
 
 -- ---- read and written
+
+-- two answers with the same number and nest
+both-read : {a b : ℕ} {s t : LoopNest} → a ≡ b → s ≡ t → _≡_ {A = Reading} (record { refusal = a; nest = s }) (record { refusal = b; nest = t })
+both-read p q = λ i. record { refusal = p i; nest = q i }
+
+-- what `write` leaves of an accepted nest where there is room
+wrote : (s : LoopNest) (old new : Bytes) (w : Writing) → refusal s ≡ 0 → Writes s old w new → length (textOf s) ≤ length old → Wrote (textOf s) old w new
+wrote s old new w ok W h =
+    let z = put-room (refusal s) (textOf s) old h ∙ ok in
+    let a = put-number (refusal s) (textOf s) old w new W ∙ z in
+    let l = put-length (refusal s) (textOf s) old w new W z in
+    (λ i. record { refusal = a i; length = l i }, put-bytes (refusal s) (textOf s) old w new W z)
+
+-- what is written for a nest that was read, by which text it was read from
+again : (text old : Bytes) (w : Writing) (new : Bytes) (s : LoopNest) → (textOf s ≡ text) ⊎ (LongEqual s text × (textOf s ≡ textWith s (shortLast s)))
+    → Wrote (textOf s) old w new → Wrote text old w new ⊎ (LongEqual s text × Wrote (textWith s (shortLast s)) old w new)
+again text old w new s (inl e) b = inl (subst (λ (bs : Bytes). Wrote bs old w new) e b)
+again text old w new s (inr (l, e)) b = inr (l, subst (λ (bs : Bytes). Wrote bs old w new) e b)
+
 same-text : SameText
 same-text = record {
+  reads-as = λ s text r ok R.
+      let l = reads-as s ok text in (
+        λ e. l .0 (sym (ap (λ (x : Reading). x .refusal) R) ∙ ap (λ (x : Reading). x .refusal) e, sym (ap (λ (x : Reading). x .nest) R) ∙ ap (λ (x : Reading). x .nest) e),
+        λ t. let b = l .1 t in R ∙ both-read (b .0) (b .1),
+      );
   reads-written = λ s old new w r W e R.
       let z = sym (put-number (refusal s) (textOf s) old w new W) ∙ e in
       let q = read-written s (put-first (refusal s) (textOf s) old z) in
@@ -155,15 +182,15 @@ same-text = record {
       ap₂ (λ (n : ℕ) (bs : Bytes). take n bs) (put-length (refusal s) (textOf s) old w new W z) (put-bytes (refusal s) (textOf s) old w new W z)
       ∙ take-append-le (length (textOf s)) (textOf s) (drop (length (textOf s)) old) (omega arith) ∙ take-all (length (textOf s)) (textOf s) (omega arith) in
       R ∙ ap (λ (bs : Bytes). let x : Reading = record { refusal = readRefusal bs; nest = readNest bs } in x) back
-      ∙ ap₂ (λ (k : ℕ) (n : LoopNest). let x : Reading = record { refusal = k; nest = n } in x) (q .0) (q .1);
+      ∙ both-read (q .0) (q .1);
   writes-read = λ text old new r w R e W h.
+      let s = ap (λ (x : Reading). x .nest) R in
       let q = written-read text (sym (ap (λ (x : Reading). x .refusal) R) ∙ e) in
-      let k = refusal (readNest text) in
-      let P : Puts k text old w new = subst (λ (bs : Bytes). Puts k bs old w new) (q .same-bytes) (subst (λ (s : LoopNest). Writes s old w new) (ap (λ (x : Reading). x .nest) R) W) in
-      let z = put-room k text old h ∙ q .accepted in
-      let a = put-number k text old w new P ∙ z in
-      let l = put-length k text old w new P z in
-      (λ i. record { refusal = a i; length = l i }, put-bytes k text old w new P z);
+      let b = wrote (r .nest) old new w (ap refusal s ∙ q .accepted) W h in
+      subst (λ (t : LoopNest). Wrote text old w new ⊎ (LongEqual t text × Wrote (textWith t (shortLast t)) old w new)) (sym s)
+      (again text old w new (readNest text) (q .bytes-are) (subst (λ (t : LoopNest). Wrote (textOf t) old w new) s b));
+  no-longer = λ text r R e.
+      subst (λ (t : LoopNest). length (textOf t) ≤ length text) (sym (ap (λ (x : Reading). x .nest) R)) (written-shorter text (sym (ap (λ (x : Reading). x .refusal) R) ∙ e));
 }
 
 -- ---- refusals

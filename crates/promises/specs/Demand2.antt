@@ -3,11 +3,12 @@
 -- 01 and the steps as document 02 numbers them (U2); each iteration is in one block, no two
 -- iterations of a block are at one step, every dependence leads to a later step, a block sends to
 -- at most 2m - β others (document 02, U3). A refusal comes under its stated condition and no other.
--- A nest read and written is the same nest, as text and as numbers. It is said of what calls of the
--- entries answer and leave. Assumes nothing.
+-- A nest read and written is the same nest, as text and as numbers; which texts are read as a nest
+-- is document 02's law of the last line (U1). It is said of what calls of the entries answer and
+-- leave. Assumes nothing.
 use mathlib.Core.Path.{_≡_}
 use mathlib.Core.List.{List, _++_}
-use mathlib.Core.Logic.{_↔_}
+use mathlib.Core.Logic.{_⊎_, _↔_}
 use Prim.Native.Nat.{ℕ, _+_, _*_, _^_, _<_, _≤_}
 use lib.IntN.{ℤ}
 use lib.ListN
@@ -19,12 +20,12 @@ use Rattle.nest.specs.declared.LoopNest.{LoopNest}
 use Rattle.nest.specs.Nest.{toℕ, countOf, timeOf, cleared}
 use Rattle.nest.specs.Points.{pointsOf, point, source}
 use Rattle.nest.specs.declared.Inspection.{Inspection}
-use Rattle.nest.specs.Refusals.{dependence, Order, Answered, nestOrder, Checks, Inspects}
+use Rattle.nest.specs.Refusals.{dependence, refusal, Order, Answered, nestOrder, Checks, Inspects}
 use Rattle.nest_text.specs.Fields.{Bytes}
 use Rattle.nest_text.specs.declared.Reading.{Reading}
 use Rattle.nest_text.specs.declared.Writing.{Writing}
-use Rattle.nest_text.specs.Text.{writeOrder, Reads, Writes}
-use Rattle.nest_text.specs.Form.{readOrder}
+use Rattle.nest_text.specs.Text.{shortLast, textWith, textOf, writeOrder, Reads, Writes}
+use Rattle.nest_text.specs.Form.{readOrder, LongEqual, TextFor}
 use Rattle.rows.specs.declared.Span.{Span}
 use Rattle.rows.specs.Rows.{rowOrder, Locates, Cuts}
 use Rattle.partition.specs.declared.receivers.Receivers.{Receivers}
@@ -112,16 +113,33 @@ pub record IsPlan (s : LoopNest) (old : Tables) (p : Planning) (t : Tables) : Ty
   pub value : (k : ℕ) → Iteration s k → at (t .values) k ≡ valueOf (ruleOf s) s (valuesOf s) k
 
 -- ---- read and written
+
+-- a call that wrote these bytes in front of what stood behind them
+abbrev pub Wrote : Bytes → Bytes → Writing → Bytes → Type 0
+Wrote bytes old w new =
+    (w ≡ record { refusal = 0; length = lib.ListN.length bytes })
+    × (new ≡ bytes ++ drop (lib.ListN.length bytes) old)
+
 pub record SameText : Type 0 where
+  -- `read` gives an accepted nest, with 0 in the places that its text has no field for, exactly if
+  -- the text is what is written for it, or its long form where the boundary values of two
+  -- dependences or more are all equal
+  pub reads-as : (s : LoopNest) (text : Bytes) (r : Reading) → refusal s ≡ 0 → Reads text r
+      → (r ≡ record { refusal = 0; nest = cleared s }) ↔ TextFor s text
   -- reading what `write` left gives the nest, with 0 in the places that its text has no field for
   pub reads-written : (s : LoopNest) (old new : Bytes) (w : Writing) (r : Reading)
       → Writes s old w new → w .refusal ≡ 0 → Reads (take (w .length) new) r
       → r ≡ record { refusal = 0; nest = cleared s }
-  -- writing what `read` gave, into a buffer that has room, gives the same bytes
+  -- writing what `read` gave, into a buffer that has room for what is written, gives the same
+  -- bytes, unless the last line was a long one of equal boundary values; then the short text of the
+  -- same nest
   pub writes-read : (text old new : Bytes) (r : Reading) (w : Writing)
-      → Reads text r → r .refusal ≡ 0 → Writes (r .nest) old w new → lib.ListN.length text ≤ lib.ListN.length old
-      → (w ≡ record { refusal = 0; length = lib.ListN.length text })
-      × (new ≡ text ++ drop (lib.ListN.length text) old)
+      → Reads text r → r .refusal ≡ 0 → Writes (r .nest) old w new
+      → lib.ListN.length (textOf (r .nest)) ≤ lib.ListN.length old
+      → Wrote text old w new ⊎ (LongEqual (r .nest) text × Wrote (textWith (r .nest) (shortLast (r .nest))) old w new)
+  -- which is no longer than what was read
+  pub no-longer : (text : Bytes) (r : Reading) → Reads text r → r .refusal ≡ 0
+      → lib.ListN.length (textOf (r .nest)) ≤ lib.ListN.length text
 
 -- ---- refusals
 

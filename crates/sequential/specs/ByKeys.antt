@@ -13,10 +13,11 @@ use Rattle.sequential.specs.Sequential.{modulus}
 abbrev pub fewIterations : ℕ
 fewIterations = 512
 
-module _ (keys distances : List ℤ) (weights : List ℕ) (boundary : ℕ) (values : List ℕ) (k : ℕ) where
+module _ (keys distances : List ℤ) (weights boundaries values : List ℕ) (k : ℕ) where
   -- the weight of dependence i times what is read along it
   unfoldable pub termIn : ℕ → ℕ
-  termIn i = getD weights i 0 * getD (take (length keys) values) (sourceIn keys k (getD distances i (pos 0))) boundary
+  termIn i = getD weights i 0
+      * getD (take (length keys) values) (sourceIn keys k (getD distances i (pos 0))) (getD boundaries i 0)
 
   -- the value of iteration k, with m dependences
   unfoldable pub valueIn : ℕ → ℕ

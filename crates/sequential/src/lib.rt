@@ -37,7 +37,8 @@ fn weighted(values: &[u16], iterations: usize, j: usize, boundary: u16, weight: 
 }
 
 // The weight of dependence i times the value that is read along it at an index point, where the
-// iterations have these values.
+// iterations have these values: the source's, or the boundary value of dependence i where the
+// source is no iteration.
 fn weighted_source(
     s: LoopNest,
     iterations: usize,
@@ -48,11 +49,13 @@ fn weighted_source(
     requires { ⌜ (refusal s ≡ 0) × (isPoint (pointsOf s) (part point 0 (depthOf s)) ≡ true) × (i < countOf s)
         × (iterations ≤ length (now values)) ⌝ }
     ensures { λ r. ⌜ r ≡ toℕ (getD (s .weights) i (pos 0)) * getD (take iterations (now (values .entry)))
-        (rank (pointsOf s) (source (part point 0 (depthOf s)) (dependence s i))) (toℕ (s .boundary)) ⌝ }
+        (rank (pointsOf s) (source (part point 0 (depthOf s)) (dependence s i)))
+        (toℕ (getD (s .boundaries) i (pos 0))) ⌝ }
     ensures { λ r. ⌜ r ≤ maxWeight * maxBoundary ⌝ }
 {
     let j = nest::source_at(s, point, i);
-    let boundary = nest::to_size(s.boundary) as u16;
+    let boundaries = s.boundaries;
+    let boundary = nest::to_size(boundaries[i]) as u16;
     let weights = s.weights;
     let weight = nest::to_size(weights[i]);
     weighted(values, iterations, j, boundary, weight)
@@ -89,45 +92,48 @@ pub fn value_at(s: LoopNest, iterations: usize, values: &[u16], k: usize) -> u16
     value_from(s, iterations, values, point, k)
 }
 
-// The weights of the dependences of an accepted nest, as sizes.
-fn weights_of(s: LoopNest) -> [usize; LoopNest::MAX_DEPENDENCES]
-    requires { ⌜ refusal s ≡ 0 ⌝ }
-    ensures { λ r. ⌜ ((i : ℕ) → i < countOf s → getD r i 0 ≡ toℕ (getD (s .weights) i (pos 0))) ⌝ }
+// The boundary values, or the weights, of m dependences, as sizes.
+fn sizes_of(
+    numbers: &[i64; LoopNest::MAX_DEPENDENCES],
+    m: usize,
+) -> [usize; LoopNest::MAX_DEPENDENCES]
+    requires { ⌜ m ≤ maxDependences ⌝ }
+    ensures { λ r. ⌜ ((i : ℕ) → i < m → getD r i 0 ≡ toℕ (getD (now (numbers .entry)) i (pos 0))) ⌝ }
 {
-    let m = nest::to_size(s.count);
-    let weights = s.weights;
     let mut sizes = [0usize; LoopNest::MAX_DEPENDENCES];
     for i in 0..m {
-        sizes[i] = nest::to_size(weights[i]);
+        sizes[i] = nest::to_size(numbers[i]);
     }
     sizes
 }
 
 // The value of iteration k, where the iterations before it have these values: the weighted sum of
-// its source values. The sources are found by their keys, and the cursors go forward to them.
+// its source values. The sources are found by their keys, and the cursors go forward to them; one
+// that is no iteration reads as the boundary value of its dependence.
 fn next_value(
     keys: &[i64],
     k: usize,
     m: usize,
     distances: &[i64; LoopNest::MAX_DEPENDENCES],
     weights: &[usize; LoopNest::MAX_DEPENDENCES],
-    boundary: u16,
+    boundaries: &[usize; LoopNest::MAX_DEPENDENCES],
     values: &[u16],
     cursors: &mut [usize; LoopNest::MAX_DEPENDENCES],
 ) -> u16
     requires { ⌜ (k < length (now keys)) × (length (now keys) ≤ maxIterations)
         × (length (now keys) ≤ length (now values)) × (m ≤ maxDependences) ⌝ }
     requires { ⌜ ((i : ℕ) → i < m → Searchable (now keys) (getD (now distances) i (pos 0))
-        × (getD (now weights) i 0 ≤ maxWeight)) ⌝ }
+        × (getD (now weights) i 0 ≤ maxWeight) × (getD (now boundaries) i 0 ≤ maxBoundary)) ⌝ }
     requires { ⌜ Behind (now keys) (now distances) k m (now cursors) ⌝ }
-    ensures { λ r. ⌜ r ≡ valueIn (now (keys .entry)) (now (distances .entry)) (now (weights .entry)) boundary
-        (now (values .entry)) k m ⌝ }
+    ensures { λ r. ⌜ r ≡ valueIn (now (keys .entry)) (now (distances .entry)) (now (weights .entry))
+        (now (boundaries .entry)) (now (values .entry)) k m ⌝ }
     ensures { λ r. ⌜ Behind (now (keys .entry)) (now (distances .entry)) k m (now (cursors .exit)) ⌝ }
 {
     let iterations = keys.len();
     let mut total = k;
     for i in 0..m {
         let j = sources::next_source(keys, k, distances, i, cursors);
+        let boundary = boundaries[i] as u16;
         total = total + weighted(values, iterations, j, boundary, weights[i]);
     }
     (total % MODULUS) as u16
@@ -143,8 +149,8 @@ pub fn fill_by_keys(s: LoopNest, keys: &[i64], values: &mut [u16])
     let iterations = keys.len();
     let m = nest::to_size(s.count);
     let distances = sources::distances_of(s);
-    let weights = weights_of(s);
-    let boundary = nest::to_size(s.boundary) as u16;
+    let weights = sizes_of(&s.weights, m);
+    let boundaries = sizes_of(&s.boundaries, m);
     let mut cursors = [0usize; LoopNest::MAX_DEPENDENCES];
     for k in 0..iterations {
         values[k] = next_value(
@@ -153,7 +159,7 @@ pub fn fill_by_keys(s: LoopNest, keys: &[i64], values: &mut [u16])
             m,
             &distances,
             &weights,
-            boundary,
+            &boundaries,
             values,
             &mut cursors,
         );

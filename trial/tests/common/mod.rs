@@ -7,11 +7,33 @@ use second::nest::LoopNest;
 use second::refusal::Number;
 use sheets::Random;
 use trial::buffers::Guarded;
+use trial::entry::NUMBERS;
 use trial::nests;
 
 /// The nest of document 01's listing: two loops (0..1, 0..2), dependences (0,1) and (1,0), time
 /// vector (1,1), cube dimension 1, boundary value 1, weights 2 and 3.
 pub const P2: &[u8] = include_bytes!("../../../examples/P2.txt");
+
+/// The same with boundary value 1 for (0,1) and 10 for (1,0): a value is the rank, 2 times what is
+/// on the left and 3 times what is above, where 1 is on the left of column 0 and 10 is above row 0.
+pub const P2_WITH_TWO: &[u8] = b"     2     2     1\n     0     1\n     0     2\n     1     1\n\
+      \x20    0     1\n     1     0\n     1    10     2     3\n";
+
+/// Its values: 0 + 2 * 1 + 3 * 10 = 32, 1 + 2 * 32 + 3 * 10 = 95, 2 + 2 * 95 + 3 * 10 = 222,
+/// 3 + 2 * 1 + 3 * 32 = 101, 4 + 2 * 101 + 3 * 95 = 491, 5 + 2 * 491 + 3 * 222 = 1653.
+pub const VALUES_WITH_TWO: [u16; 6] = [32, 95, 222, 101, 491, 1653];
+
+/// The same with boundary value 1 for both, in the long form.
+pub const P2_LONG: &[u8] = b"     2     2     1\n     0     1\n     0     2\n     1     1\n\
+      \x20    0     1\n     1     0\n     1     1     2     3\n";
+
+/// A nest with other numbers in the places behind its dependences, which are no part of it.
+pub fn with_junk_behind(nest: &Nest, junk: [i64; 2]) -> Nest {
+    let (mut other, count) = (*nest, nest.count as usize);
+    other.boundaries[count..].fill(junk[0]);
+    other.weights[count..].fill(junk[1]);
+    other
+}
 
 /// A nest of the second planner as it is lent, with anything in the places that are no part of it.
 pub fn lent(random: &mut Random, nest: &LoopNest) -> Nest {
@@ -20,7 +42,7 @@ pub fn lent(random: &mut Random, nest: &LoopNest) -> Nest {
 
 /// The same, with 0 in those places.
 pub fn plain(nest: &LoopNest) -> Nest {
-    nests::numbers_over([0; 45], nest).into()
+    nests::numbers_over([0; NUMBERS], nest).into()
 }
 
 /// Accepted nests of every kind, none of them large.

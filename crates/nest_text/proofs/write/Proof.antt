@@ -5,9 +5,12 @@ use mathlib.Core.Path.{_≡_, sym, ap, ap₂, _∙_}
 use native.Mathlib.Omega.{arith}
 use lib.ListN.{length}
 use Rattle.integers.proofs.Bounds.{told}
-use Rattle.nest.specs.Nest.{toℕ, depthOf, countOf}
+use Prim.Native.Nat.{_+_, _≤_}
+use Rattle.nest.specs.Nest.{toℕ, part, depthOf, countOf, boundariesOf, maxDependences}
 use Rattle.nest.specs.Refusals.{refusal}
 use Rattle.nest_text.specs.Text.{textOf, textLength}
+use Rattle.nest_text.specs.Reader.{valueCount}
+use Rattle.nest_text.proofs.EqualValues.{values-few}
 use Rattle.nest.proofs.Spans.{spans}
 use Rattle.nest_text.proofs.TextLength.{text-length}
 use Rattle.nest_text.proofs.WriteAnswers.{refused-first, refused-short, bytes-written}
@@ -22,7 +25,7 @@ abbrev passed : tie.After-to-size2 → tie.Else1
 passed c = c .before .before .before .before
 
 abbrev sized : tie.After-text-length → tie.After-to-size2
-sized c = c .before
+sized c = c .before .before .before
 
 abbrev first : tie.After-text-length → tie.Start
 first c = start (passed (sized c))
@@ -55,17 +58,45 @@ loops c =
 dependences : (c : tie.After-to-size2) → c .to-size2 .result ≡ countOf (start (passed c) .args .s)
 dependences c = c .to-size2 .ensures ∙ ap toℕ (told (start (passed c) .args .s .count) (c .before .struct-told2 .given .1 .0 .1))
 
+value-count-requires : tie.Need-value-count-requires
+value-count-requires c κs =
+    let d = c .before in
+    omega (arith, dependences d, spans (start (passed d) .args .s) (accepted (passed d)) .count-few)
+
+-- how many boundary values are written
+values : (c : tie.After-value-count) → c .value-count .result ≡ valueCount (boundariesOf (start (passed (c .before .before)) .args .s))
+unfolding boundariesOf
+values c = let d = c .before .before in c .value-count .ensures ∙ ap (λ m. valueCount (part (start (passed d) .args .s .boundaries) 0 m)) (dependences d)
+
+-- no more than there are
+few : (c : tie.After-value-count) → c .value-count .result ≤ maxDependences
+few c =
+    let d = c .before .before in
+    let s = start (passed d) .args .s in
+    let h = spans s (accepted (passed d)) in
+    omega (arith, values c, values-few s (h .count-some) .1, h .count-few)
+
+add-text-length : tie.Need-add-text-length
+add-text-length c =
+    let d = c .before .before in
+    let h = spans (start (passed d) .args .s) (accepted (passed d)) in
+    omega (arith, few c, dependences d, h .count-few)
+
 text-length-requires : tie.Need-text-length-requires
 text-length-requires c κs =
-    let h = spans (start (passed c) .args .s) (accepted (passed c)) in
-    (omega (arith, loops c, h .depth-few), omega (arith, dependences c, h .count-few))
+    let d = c .before .before in
+    let h = spans (start (passed d) .args .s) (accepted (passed d)) in
+    (omega (arith, loops d, h .depth-few), omega (arith, dependences d, h .count-few), omega (arith, few c, dependences d, h .count-few))
 
 -- the length that is computed is the text's
 long : (c : tie.After-text-length) → c .text-length .result ≡ length (textOf (first c .args .s))
 long c =
     let s = first c .args .s in
-    c .text-length .ensures ∙ ap₂ textLength (loops (sized c)) (dependences (sized c))
-    ∙ sym (text-length s (spans s (accepted (passed (sized c)))))
+    let d = sized c in
+    c .text-length .ensures
+    ∙ ap₂ (λ n k. textLength n (d .to-size2 .result) k) (loops d) (ap₂ (λ v m. v + m) (values (c .before)) (dependences d))
+    ∙ ap (λ m. textLength (depthOf s) m (valueCount (boundariesOf s) + countOf s)) (dependences d)
+    ∙ sym (text-length s (spans s (accepted (passed d))))
 
 returns-2 : tie.Need-returns-2
 returns-2 c =
@@ -76,7 +107,7 @@ returns-2 c =
 put-text-requires : tie.Need-put-text-requires
 put-text-requires c κs =
     let d = c .before .before in
-    (accepted (passed (sized d)), (loops (sized d), (dependences (sized d), omega (arith, long d))))
+    (accepted (passed (sized d)), (loops (sized d), (dependences (sized d), (values (d .before), omega (arith, long d)))))
 
 same-length : tie.Need-same-length
 same-length c = search needs
@@ -87,7 +118,7 @@ returns-3 c =
     let d = p .before .before .before in
     let a = first d .args in
     bytes-written (refusal (a .s)) (textOf (a .s)) (a .out .now) (accepted (passed (sized d))) (d .text-length .result)
-    (p .put-text .last .1 .1 .1 .0) (long d) (omega (arith, long d)) (p .put-text .ensures .bytes)
+    (p .put-text .last .1 .1 .1 .1 .0) (long d) (omega (arith, long d)) (p .put-text .ensures .bytes)
 
 pub write-spec : {M : Type 1} → statement M
 write-spec =
@@ -97,6 +128,8 @@ write-spec =
     returns
     to-size-requires
     to-size-requires-2
+    value-count-requires
+    add-text-length
     text-length-requires
     returns-2
     put-text-requires

@@ -1,5 +1,6 @@
--- `fill_by_keys` meets its contract. The loop's invariant: the values of the first k iterations, and what stood behind them, for the nest whose numbers are
--- used; and no cursor is past its place. Assumes nothing.
+-- `fill_by_keys` meets its contract. The loop's invariant: the values of the first k iterations,
+-- and what stood behind them, for the nest whose numbers are used; and no cursor is past its place.
+-- Assumes nothing.
 use borrow.Author.Needs.{needs}
 use mathlib.Core.Path.{_≡_, ap, _∙_}
 use mathlib.Core.List.{List}
@@ -17,53 +18,66 @@ use Rattle.sources.specs.Keys.{Behind}
 use Rattle.sources.proofs.Cursors.{behind-start, behind-more, keyed-length, keyed-increase}
 use Rattle.sequential.proofs.FillLaws.{filledTo, filled-none, filled-length, filled-more}
 use Rattle.sequential.proofs.KeyLaws.{Uses, uses-search, uses-value}
-use Rattle.sequential.proofs.SourceLaws.{boundary-most}
 use Rattle.sequential.proofs.fill_by_keys.Statement.{statement}
 use Rattle.sequential.proofs.fill_by_keys.Tie as tie
 
 abbrev Inv-loop : tie.InvT-loop
-Inv-loop keys values₀ n m distances weights boundary cursors₀ k₀ values cursors k =
-    (k ≤ n) × ((s : LoopNest) → Uses s keys m distances weights boundary → values ≡ filledTo s values₀ k) × (k < n → Behind keys distances k m cursors)
+Inv-loop keys values₀ n m distances weights boundaries cursors₀ k₀ values cursors k =
+    (k ≤ n) × ((s : LoopNest) → Uses s keys m distances weights boundaries → values ≡ filledTo s values₀ k) × (k < n → Behind keys distances k m cursors)
 
 abbrev μ-loop : tie.MeasureT-loop
-μ-loop keys values₀ n m distances weights boundary cursors₀ k₀ values cursors k = n - k
+μ-loop keys values₀ n m distances weights boundaries cursors₀ k₀ values cursors k = n - k
+
+-- where the number of dependences is known
+abbrev Counted : Type 0
+Counted = tie.After-to-size Inv-loop μ-loop
+
+abbrev started : Counted → tie.Start Inv-loop μ-loop
+started t = t .before .before .before
+
+-- it is the nest's, and there is a place for each in the arrays
+count : (t : Counted) → t .to-size .result ≡ countOf (started t .args .t1)
+count t = t .to-size .ensures ∙ ap toℕ (told (started t .args .t1 .count) (t .before .struct-told .given .1 .0 .1))
+
+few : (t : Counted) → t .to-size .result ≤ maxDependences
+few t = omega (arith, count t, count-is (started t .args .t1) (started t .pre .0) .1)
 
 -- where the loop begins: the nest, and the numbers that are used
 abbrev Begin : Type 0
-Begin = tie.After-to-size2 Inv-loop μ-loop
+Begin = tie.After-sizes-of2 Inv-loop μ-loop
+
+abbrev counted : Begin → Counted
+counted b = b .before .before .before .before .before .before .before
 
 abbrev st : Begin → tie.Start Inv-loop μ-loop
-st b = b .before .before .before .before .before .before .before
+st b = started (counted b)
 
 abbrev s : Begin → LoopNest
-s b = st b .args .s
+s b = st b .args .t1
 
 abbrev m : Begin → ℕ
-m b = b .before .before .before .before .to-size .result
+m b = counted b .to-size .result
 
 abbrev distances : Begin → List ℤ
-distances b = b .before .before .before .distances-of .result
+distances b = b .before .before .before .before .before .before .distances-of .result
 
 abbrev weights : Begin → List ℕ
-weights b = b .before .before .weights-of .result
+weights b = b .before .before .before .sizes-of .result
 
-boundary-is : (b : Begin) → b .to-size2 .result ≡ toℕ (s b .boundary)
-boundary-is b = b .to-size2 .ensures ∙ ap toℕ (told (s b .boundary) (b .before .struct-told2 .given .1 .1 .1 .1 .1 .1 .1 .0 .1))
+abbrev boundaries : Begin → List ℕ
+boundaries b = b .sizes-of2 .result
 
-uses : (b : Begin) → Uses (s b) (st b .args .keys .now) (m b) (distances b) (weights b) (b .to-size2 .result)
-uses b =
-    let t = b .before .before .before .before in
-    let n : m b ≡ countOf (s b) = t .to-size .ensures ∙ ap toℕ (told (s b .count) (t .before .struct-told .given .1 .0 .1)) in
-    record {
-      keyed = record {
-        accepted = st b .pre .0;
-        keys-are = st b .pre .1;
-        count = n;
-        distances-are = b .before .before .before .distances-of .ensures;
-      };
-      weights-are = λ i h. b .before .before .weights-of .ensures i (omega (arith, n, h));
-      boundary-is = boundary-is b;
-    }
+uses : (b : Begin) → Uses (s b) (st b .args .keys .now) (m b) (distances b) (weights b) (boundaries b)
+uses b = record {
+  keyed = record {
+    accepted = st b .pre .0;
+    keys-are = st b .pre .1;
+    count = count (counted b);
+    distances-are = b .before .before .before .before .before .before .distances-of .ensures;
+  };
+  weights-are = b .before .before .before .sizes-of .ensures;
+  boundaries-are = b .sizes-of2 .ensures;
+}
 
 -- there are as many keys as iterations
 keys-count : (b : Begin) → length (st b .args .keys .now) ≡ length (pointsOf (s b))
@@ -79,19 +93,13 @@ to-size-requires : tie.Need-to-size-requires Inv-loop μ-loop
 to-size-requires c κs = search needs
 
 distances-of-requires : tie.Need-distances-of-requires Inv-loop μ-loop
-distances-of-requires c κs = c .before .before .before .pre .0
+distances-of-requires c κs = started c .pre .0
 
-weights-of-requires : tie.Need-weights-of-requires Inv-loop μ-loop
-weights-of-requires c κs = c .before .before .before .before .pre .0
+sizes-of-requires : tie.Need-sizes-of-requires Inv-loop μ-loop
+sizes-of-requires c κs = few (c .before .before .before)
 
-to-size-requires-2 : tie.Need-to-size-requires-2 Inv-loop μ-loop
-to-size-requires-2 c κs = search needs
-
-cast-boundary : tie.Need-cast-boundary Inv-loop μ-loop
-cast-boundary c =
-    let m = boundary-most (s c) (st c .pre .0) in
-    let e = boundary-is c in
-    omega arith
+sizes-of-requires-2 : tie.Need-sizes-of-requires-2 Inv-loop μ-loop
+sizes-of-requires-2 c κs = few (c .before .before .before .before .before .before)
 
 loop-holds : tie.Need-loop-holds Inv-loop μ-loop
 loop-holds c =
@@ -100,7 +108,7 @@ loop-holds c =
 
 next-value-requires : tie.Need-next-value-requires Inv-loop μ-loop
 next-value-requires c κs =
-    let i = c .before .before .before .before in
+    let i = c .before .before .before .before .before in
     let d = i .before in
     let b = d .before in
     let k = i .loop-test .taken in
@@ -110,35 +118,35 @@ next-value-requires c κs =
         k,
         omega (arith, keys-count b, few-points (s b) ok),
         omega (arith, kept d, keys-count b, st b .pre .2),
-        omega (arith, u .keyed .count, count-is (s b) ok .1),
+        few (counted b),
       ),
-      (uses-search (s b) (st b .args .keys .now) (m b) (distances b) (weights b) (b .to-size2 .result) u, d .loop .inv .2 k),
+      (uses-search (s b) (st b .args .keys .now) (m b) (distances b) (weights b) (boundaries b) u, d .loop .inv .2 k),
     )
 
 mul-values : tie.Need-mul-values Inv-loop μ-loop
 mul-values c =
-    let i = c .before .before .before .before .before in
+    let i = c .before .before .before .before .before .before in
     let b = i .before .before in
     omega (arith, keys-count b, few-points (s b) (st b .pre .0), i .loop-test .taken)
 
 slice-write-values : tie.Need-slice-write-values Inv-loop μ-loop
 slice-write-values c =
-    let i = c .before .before .before .before .before in
+    let i = c .before .before .before .before .before .before in
     let b = i .before .before in
     omega (arith, kept (i .before), keys-count b, st b .pre .2, i .loop-test .taken)
 
 add-k : tie.Need-add-k Inv-loop μ-loop
 add-k c =
-    let i = c .before .before .before .before .before in
+    let i = c .before .before .before .before .before .before in
     let b = i .before .before in
     omega (arith, keys-count b, few-points (s b) (st b .pre .0), i .loop-test .taken)
 
 loop-less : tie.Need-loop-less Inv-loop μ-loop
-loop-less c = let i = c .before .before .before .before .before in omega (arith, i .loop-test .taken)
+loop-less c = let i = c .before .before .before .before .before .before in omega (arith, i .loop-test .taken)
 
 loop-again : tie.Need-loop-again Inv-loop μ-loop
 loop-again c =
-    let i = c .before .before .before .before .before in
+    let i = c .before .before .before .before .before .before in
     let d = i .before in
     let b = d .before in
     let a = st b .args in
@@ -148,7 +156,7 @@ loop-again c =
           let n = keyed-length s′ (a .keys .now) (m b) (distances b) (u .keyed) in
           let l : d .loop .k < length (pointsOf s′) = omega (arith, k, n) in
           filled-more s′ (a .values .now) (u .keyed .accepted) (d .loop .k) (c .next-value .result) (d .loop .values) l (omega (arith, k, keys-count b, st b .pre .2)) (d .loop .inv .1 s′ u)
-          (uses-value s′ (a .keys .now) (m b) (distances b) (weights b) (b .to-size2 .result) u (d .loop .values) (d .loop .k) l (c .next-value .result) (c .next-value .ensures .0)),
+          (uses-value s′ (a .keys .now) (m b) (distances b) (weights b) (boundaries b) u (d .loop .values) (d .loop .k) l (c .next-value .result) (c .next-value .ensures .0)),
       λ h. behind-more (a .keys .now) (distances b) (m b) (d .loop .k) (c .next-value .last .1 .1 .1 .1 .1 .1 .1 .0) (keyed-increase (s b) (a .keys .now) (m b) (distances b) (uses b .keyed)) h (c .next-value .ensures .1),
     )
 
@@ -170,9 +178,8 @@ fill-by-keys-spec =
     μ-loop
     to-size-requires
     distances-of-requires
-    weights-of-requires
-    to-size-requires-2
-    cast-boundary
+    sizes-of-requires
+    sizes-of-requires-2
     loop-holds
     next-value-requires
     mul-values

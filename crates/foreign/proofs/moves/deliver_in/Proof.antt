@@ -46,7 +46,7 @@ source-in-requires : tie.Need-source-in-requires
 source-in-requires c κs =
     let e = c .before in
     let t = e .before .before .before .before .before .before .before in
-    let l : length (t .args .numbers .now) ≡ 45 = search needs in
+    let l : length (t .args .numbers .now) ≡ 52 = search needs in
     (l, (t .pre .0 .0, t .pre .0 .1, e .before .before .before .if1 .left, there e))
 
 deliver-from-requires : tie.Need-deliver-from-requires

@@ -60,9 +60,6 @@ part-inspect-parts-start-4 c = search needs
 part-inspect-parts-end-4 : tie.Need-part-inspect-parts-end-4
 part-inspect-parts-end-4 c = search needs
 
-shared-slice-copy-out-inspect-parts-4 : tie.Need-shared-slice-copy-out-inspect-parts-4
-shared-slice-copy-out-inspect-parts-4 c = search needs
-
 sub-inspect-parts-5 : tie.Need-sub-inspect-parts-5
 sub-inspect-parts-5 c = search needs
 
@@ -71,6 +68,15 @@ part-inspect-parts-start-5 c = search needs
 
 part-inspect-parts-end-5 : tie.Need-part-inspect-parts-end-5
 part-inspect-parts-end-5 c = search needs
+
+sub-inspect-parts-6 : tie.Need-sub-inspect-parts-6
+sub-inspect-parts-6 c = search needs
+
+part-inspect-parts-start-6 : tie.Need-part-inspect-parts-start-6
+part-inspect-parts-start-6 c = search needs
+
+part-inspect-parts-end-6 : tie.Need-part-inspect-parts-end-6
+part-inspect-parts-end-6 c = search needs
 
 inspect-parts-requires : tie.Need-inspect-parts-requires
 inspect-parts-requires c κs = search needs
@@ -82,8 +88,7 @@ returns c =
     let x = told (getD xs 0 (pos 0)) (c .before .before .before .before .before .before .before .before .before .inspect-parts-arg .given) in
     let y = told (getD xs 1 (pos 0)) (c .before .before .before .before .before .before .before .before .inspect-parts-arg2 .given) in
     let z = told (getD xs 2 (pos 0)) (c .before .before .before .before .before .before .before .inspect-parts-arg3 .given) in
-    let b = told (getD xs 36 (pos 0)) (c .before .before .inspect-parts-arg8 .given) in
-    (rw (x, y, z, b) at (c .inspect-parts .ensures)) ∙ ap knownOf (lent-nest xs (s .pre))
+    (rw (x, y, z) at (c .inspect-parts .ensures)) ∙ ap knownOf (lent-nest xs (s .pre))
 
 pub inspect-in-spec : {M : Type 1} → statement M
 inspect-in-spec =
@@ -104,9 +109,11 @@ inspect-in-spec =
     sub-inspect-parts-4
     part-inspect-parts-start-4
     part-inspect-parts-end-4
-    shared-slice-copy-out-inspect-parts-4
     sub-inspect-parts-5
     part-inspect-parts-start-5
     part-inspect-parts-end-5
+    sub-inspect-parts-6
+    part-inspect-parts-start-6
+    part-inspect-parts-end-6
     inspect-parts-requires
     returns)

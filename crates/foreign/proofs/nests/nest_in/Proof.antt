@@ -39,25 +39,28 @@ slice-aggregate-copy-5 c = search needs
 copy-requires-5 : tie.Need-copy-requires-5
 copy-requires-5 c κs = search needs
 
-element-copy-out-t30 : tie.Need-element-copy-out-t30
-element-copy-out-t30 c = search needs
+slice-aggregate-copy-6 : tie.Need-slice-aggregate-copy-6
+slice-aggregate-copy-6 c = search needs
 
-element-copy-out-t33 : tie.Need-element-copy-out-t33
-element-copy-out-t33 c = search needs
+copy-requires-6 : tie.Need-copy-requires-6
+copy-requires-6 c κs = search needs
 
-element-copy-out-t36 : tie.Need-element-copy-out-t36
-element-copy-out-t36 c = search needs
+element-copy-out-t35 : tie.Need-element-copy-out-t35
+element-copy-out-t35 c = search needs
 
-element-copy-out-t43 : tie.Need-element-copy-out-t43
-element-copy-out-t43 c = search needs
+element-copy-out-t38 : tie.Need-element-copy-out-t38
+element-copy-out-t38 c = search needs
+
+element-copy-out-t41 : tie.Need-element-copy-out-t41
+element-copy-out-t41 c = search needs
 
 returns : tie.Need-returns
 unfolding part tab
 returns c =
-    let s = c .before .before .before .before .before .before .before .before .before .before .before .before .before .before .before .before .before .before .before .before .before .before .before .before in
+    let s = c .before .before .before .before .before .before .before .before .before .before .before .before .before .before .before .before .before .before .before .before .before .before .before .before .before .before .before in
     let xs = s .args .numbers .now in
-    joined-nest xs _ _ _ _ _ _ _ _ _ (told (getD xs 0 (pos 0)) (c .before .before .before .t30 .given)) (told (getD xs 1 (pos 0)) (c .before .before .t33 .given)) (told (getD xs 2 (pos 0)) (c .before .t36 .given))
-    (c .before .before .before .before .before .before .before .before .before .before .before .before .before .before .before .before .before .before .before .before .before .copy .ensures) (c .before .before .before .before .before .before .before .before .before .before .before .before .before .before .before .before .before .copy2 .ensures) (c .before .before .before .before .before .before .before .before .before .before .before .before .before .copy3 .ensures) (c .before .before .before .before .before .before .before .before .before .copy4 .ensures) (told (getD xs 36 (pos 0)) (c .t43 .given)) (c .before .before .before .before .before .copy5 .ensures)
+    joined-nest xs _ _ _ _ _ _ _ _ _ (told (getD xs 0 (pos 0)) (c .before .before .t35 .given)) (told (getD xs 1 (pos 0)) (c .before .t38 .given)) (told (getD xs 2 (pos 0)) (c .t41 .given))
+    (c .before .before .before .before .before .before .before .before .before .before .before .before .before .before .before .before .before .before .before .before .before .before .before .before .copy .ensures) (c .before .before .before .before .before .before .before .before .before .before .before .before .before .before .before .before .before .before .before .before .copy2 .ensures) (c .before .before .before .before .before .before .before .before .before .before .before .before .before .before .before .before .copy3 .ensures) (c .before .before .before .before .before .before .before .before .before .before .before .before .copy4 .ensures) (c .before .before .before .before .before .before .before .before .copy5 .ensures) (c .before .before .before .before .copy6 .ensures)
 
 pub nest-in-spec : {M : Type 1} → statement M
 nest-in-spec =
@@ -73,8 +76,9 @@ nest-in-spec =
     copy-requires-4
     slice-aggregate-copy-5
     copy-requires-5
-    element-copy-out-t30
-    element-copy-out-t33
-    element-copy-out-t36
-    element-copy-out-t43
+    slice-aggregate-copy-6
+    copy-requires-6
+    element-copy-out-t35
+    element-copy-out-t38
+    element-copy-out-t41
     returns)

@@ -3,7 +3,7 @@ use borrow.Author.Needs.{needs}
 use mathlib.Core.Path.{_≡_, sym}
 use Prim.Native.Nat.{_≤_}
 use native.Mathlib.Omega.{arith}
-use lib.ListN.{length, length-set}
+use lib.ListN.{length}
 use Rattle.integers.proofs.Bounds.{told}
 use Rattle.foreign.proofs.Copying.{copied-nest}
 use Rattle.foreign.proofs.nests.numbers_of.Statement.{statement}
@@ -21,6 +21,9 @@ time-array c = search needs
 
 dependences-array : (c : tie.Start) → length (c .args .s .dependences) ≡ 24
 dependences-array c = search needs
+
+boundaries-array : (c : tie.Start) → length (c .args .s .boundaries) ≡ 8
+boundaries-array c = search needs
 
 weights-array : (c : tie.Start) → length (c .args .s .weights) ≡ 8
 weights-array c = search needs
@@ -70,27 +73,30 @@ slice-aggregate-copy-10 c = sym (dependences-array (c .before .before .before .b
 copy-requires-5 : tie.Need-copy-requires-5
 copy-requires-5 c κs = (search needs, omega (arith, dependences-array (c .before .before .before .before .before .before .before .before .before .before .before .before .before .before .before .before .before .before .before .before .before .before .before)))
 
-array-set-from-numbers : tie.Need-array-set-from-numbers
-array-set-from-numbers c = search needs
-
 slice-aggregate-copy-11 : tie.Need-slice-aggregate-copy-11
 slice-aggregate-copy-11 c = search needs
 
 slice-aggregate-copy-12 : tie.Need-slice-aggregate-copy-12
-slice-aggregate-copy-12 c = search needs
+slice-aggregate-copy-12 c = sym (boundaries-array (c .before .before .before .before .before .before .before .before .before .before .before .before .before .before .before .before .before .before .before .before .before .before .before .before .before .before .before .before))
 
 copy-requires-6 : tie.Need-copy-requires-6
-copy-requires-6 c κs =
-    let d = c .before .before .before .before .before .copy5 .last .0 in
-    let h : 45 ≤ length d = search needs in
-    (rw length-set h, omega (arith, weights-array (c .before .before .before .before .before .before .before .before .before .before .before .before .before .before .before .before .before .before .before .before .before .before .before .before .before .before .before .before .before)))
+copy-requires-6 c κs = (search needs, omega (arith, boundaries-array (c .before .before .before .before .before .before .before .before .before .before .before .before .before .before .before .before .before .before .before .before .before .before .before .before .before .before .before .before)))
+
+slice-aggregate-copy-13 : tie.Need-slice-aggregate-copy-13
+slice-aggregate-copy-13 c = search needs
+
+slice-aggregate-copy-14 : tie.Need-slice-aggregate-copy-14
+slice-aggregate-copy-14 c = sym (weights-array (c .before .before .before .before .before .before .before .before .before .before .before .before .before .before .before .before .before .before .before .before .before .before .before .before .before .before .before .before .before .before .before .before .before))
+
+copy-requires-7 : tie.Need-copy-requires-7
+copy-requires-7 c κs = (search needs, omega (arith, weights-array (c .before .before .before .before .before .before .before .before .before .before .before .before .before .before .before .before .before .before .before .before .before .before .before .before .before .before .before .before .before .before .before .before .before)))
 
 returns : tie.Need-returns
 returns c =
-    let s = c .before .before .before .before .before .before .before .before .before .before .before .before .before .before .before .before .before .before .before .before .before .before .before .before .before .before .before .before .before .before .before .args .s in
-    let t = c .before .before .before .before .before .before .before .before .before .before .before .before .before .before .before .before .before .before .before .before .before .before .before .before .before .before .before .before .before .before .struct-told .given in
-    copied-nest s _ _ _ _ _ _ _ _ _ _ (told (s .depth) (t .0 .1)) (told (s .count) (t .1 .0 .1)) (told (s .cube) (t .1 .1 .0 .1)) (told (s .boundary) (t .1 .1 .1 .1 .1 .1 .1 .0 .1))
-    (c .before .before .before .before .before .before .before .before .before .before .before .before .before .before .before .before .before .before .before .before .before .before .before .before .before .before .before .copy .ensures) (c .before .before .before .before .before .before .before .before .before .before .before .before .before .before .before .before .before .before .before .before .before .before .copy2 .ensures) (c .before .before .before .before .before .before .before .before .before .before .before .before .before .before .before .before .before .copy3 .ensures) (c .before .before .before .before .before .before .before .before .before .before .before .before .copy4 .ensures) (c .before .before .before .before .before .before .before .copy5 .ensures) (c .before .copy6 .ensures)
+    let s = c .before .before .before .before .before .before .before .before .before .before .before .before .before .before .before .before .before .before .before .before .before .before .before .before .before .before .before .before .before .before .before .before .before .before .before .args .s in
+    let t = c .before .before .before .before .before .before .before .before .before .before .before .before .before .before .before .before .before .before .before .before .before .before .before .before .before .before .before .before .before .before .before .before .before .before .struct-told .given in
+    copied-nest s _ _ _ _ _ _ _ _ _ _ (told (s .depth) (t .0 .1)) (told (s .count) (t .1 .0 .1)) (told (s .cube) (t .1 .1 .0 .1))
+    (c .before .before .before .before .before .before .before .before .before .before .before .before .before .before .before .before .before .before .before .before .before .before .before .before .before .before .before .before .before .before .before .copy .ensures) (c .before .before .before .before .before .before .before .before .before .before .before .before .before .before .before .before .before .before .before .before .before .before .before .before .before .before .copy2 .ensures) (c .before .before .before .before .before .before .before .before .before .before .before .before .before .before .before .before .before .before .before .before .before .copy3 .ensures) (c .before .before .before .before .before .before .before .before .before .before .before .before .before .before .before .before .copy4 .ensures) (c .before .before .before .before .before .before .before .before .before .before .before .copy5 .ensures) (c .before .before .before .before .before .before .copy6 .ensures) (c .before .copy7 .ensures)
 
 pub numbers-of-spec : {M : Type 1} → statement M
 numbers-of-spec =
@@ -111,8 +117,10 @@ numbers-of-spec =
     slice-aggregate-copy-9
     slice-aggregate-copy-10
     copy-requires-5
-    array-set-from-numbers
     slice-aggregate-copy-11
     slice-aggregate-copy-12
     copy-requires-6
+    slice-aggregate-copy-13
+    slice-aggregate-copy-14
+    copy-requires-7
     returns)

@@ -9,13 +9,12 @@ check-parts-requires c κs = search needs
 
 returns : tie.Need-returns
 returns c =
-    let d = c .before .before .before .before .before .before .before .before .before .before .before .before in
-    let s = d .before .before .before .before .args .t1 in
+    let d = c .before .before .before .before .before .before .before .before .before .before .before .before .before .before in
+    let s = d .before .before .before .args .t1 in
     rw (
-      told (s .boundary) (d .before .before .before .struct-told .given .1 .1 .1 .1 .1 .1 .1 .0 .1),
-      told (s .depth) (d .before .before .struct-told2 .given .0 .1),
-      told (s .count) (d .before .struct-told3 .given .1 .0 .1),
-      told (s .cube) (d .struct-told4 .given .1 .1 .0 .1),
+      told (s .depth) (d .before .before .struct-told .given .0 .1),
+      told (s .count) (d .before .struct-told2 .given .1 .0 .1),
+      told (s .cube) (d .struct-told3 .given .1 .1 .0 .1),
     )
     at (c .check-parts .ensures)
 

@@ -13,7 +13,7 @@ use Rattle.nest.proofs.refusals.check_header.Tie as tie
 
 -- the nest that has these numbers
 abbrev nest : tie.Start → LoopNest
-nest c = nestFrom (c .args .depth) (c .args .count) (c .args .cube) [] [] [] [] (pos 0) []
+nest c = nestFrom (c .args .depth) (c .args .count) (c .args .cube) [] [] [] [] [] []
 
 -- what each test says
 depth-test : (c : tie.After-is-outside) → holds (nest (c .before)) badDepth ≡ c .is-outside .result

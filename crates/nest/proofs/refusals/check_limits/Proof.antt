@@ -14,7 +14,7 @@ use Rattle.nest.proofs.refusals.check_limits.Tie as tie
 
 -- the nest that has these limits
 abbrev nest : tie.Start → LoopNest
-nest c = nestFrom (pos (c .args .n)) (pos 0) (pos 0) (c .args .lower .now) (c .args .upper .now) [] [] (pos 0) []
+nest c = nestFrom (pos (c .args .n)) (pos 0) (pos 0) (c .args .lower .now) (c .args .upper .now) [] [] [] []
 
 -- what each test says
 crossed-test : (c : tie.After-any-crossed) → holds (nest (c .before)) badLimits ≡ c .any-crossed .result

@@ -16,7 +16,7 @@ use Rattle.nest.proofs.refusals.check_parts.Tie as tie
 abbrev nest : tie.Start → LoopNest
 nest c =
     let a = c .args in
-    nestFrom (a .depth) (a .count) (a .cube) (a .lower .now) (a .upper .now) (a .time .now) (a .dependences .now) (a .boundary) (a .weights .now)
+    nestFrom (a .depth) (a .count) (a .cube) (a .lower .now) (a .upper .now) (a .time .now) (a .dependences .now) (a .boundaries .now) (a .weights .now)
 
 -- the function's start, from behind each answer
 abbrev start1 : tie.Else1 → tie.Start
@@ -52,7 +52,7 @@ weights-is : (c : tie.After-check-weights) → c .check-weights .result ≡ firs
 weights-is c =
     let s = start2 (c .before .before .before) in
     let m = c .before .before .before .before .before in
-    (rw (toZ-ofZ (s .fits .boundary)) at (c .check-weights .ensures)) ∙ weight-parts (nest s) (m .to-size2 .result) (count-is m)
+    c .check-weights .ensures ∙ weight-parts (nest s) (m .to-size2 .result) (count-is m)
 
 -- the parts that are passed
 header-passed : (c : tie.Else1) → firstMet (nest (start1 c)) headerOrder ≡ 0
@@ -111,7 +111,8 @@ check-weights-requires : tie.Need-check-weights-requires
 check-weights-requires c κs =
     let e = c .before .before in
     let m = e .before .before in
-    omega (arith, count-low m, start2 e .pre .4)
+    let p = start2 e .pre in
+    (omega (arith, count-low m, p .4), omega (arith, count-low m, p .5))
 
 returns-4 : tie.Need-returns-4
 returns-4 c =

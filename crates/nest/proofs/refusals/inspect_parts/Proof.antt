@@ -34,13 +34,13 @@ both e f = λ i. record { refusal = e i; iterations = f i }
 abbrev nest : tie.Start → LoopNest
 nest c =
     let a = c .args in
-    nestFrom (a .depth) (a .count) (a .cube) (a .lower .now) (a .upper .now) (a .time .now) (a .dependences .now) (a .boundary) (a .weights .now)
+    nestFrom (a .depth) (a .count) (a .cube) (a .lower .now) (a .upper .now) (a .time .now) (a .dependences .now) (a .boundaries .now) (a .weights .now)
 
 -- what the check answers
 refusal-is : (c : tie.After-check-parts) → c .check-parts .result ≡ refusal (nest (c .before))
 refusal-is c =
     let f = c .before .fits in
-    rw (toZ-ofZ (f .depth), toZ-ofZ (f .count), toZ-ofZ (f .cube), toZ-ofZ (f .boundary)) at (c .check-parts .ensures)
+    rw (toZ-ofZ (f .depth), toZ-ofZ (f .count), toZ-ofZ (f .cube)) at (c .check-parts .ensures)
 
 -- behind the test the nest is accepted
 accepted : (c : tie.Else1) → refusal (nest (c .before .before)) ≡ 0

@@ -1,7 +1,7 @@
--- `with_last_line` puts the boundary value and the weights in their places. The invariant: the
+-- `with_last_line` puts the boundary values and the weights in their places. The invariant: the
 -- first i weights stand there.
 use mathlib.Core.Path.{_≡_, refl, sym, ap, _∙_}
-use Prim.Native.Nat.{_+_, _-_, _≤_}
+use Prim.Native.Nat.{ℕ, _+_, _-_, _≤_}
 use native.Mathlib.Omega.{arith}
 use borrow.Author.Needs.{needs}
 use lib.IntN.{pos}
@@ -12,71 +12,74 @@ use mir.Val.{toZ, ofZ}
 use Rattle.integers.proofs.Bounds.{told}
 use Rattle.nest.specs.declared.LoopNest.{LoopNest}
 use Rattle.nest.specs.Nest.{maxDependences}
-use Rattle.nest_text.specs.Reader.{maxFields, withLastLine}
+use Rattle.nest_text.specs.Reader.{maxFields, withBoundaryLine, withLastLine}
 use Rattle.nest_text.proofs.StoreLaws.{weighted, over, over-none, over-all, weights-more}
 use Rattle.nest_text.proofs.reader.with_last_line.Statement.{statement}
 use Rattle.nest_text.proofs.reader.with_last_line.Tie as tie
 
 abbrev Inv-loop : tie.InvT-loop
-Inv-loop row t₀ i₀ t i = (i ≤ maxDependences) × (t ≡ weighted t₀ (over (t₀ .weights) 0 (drop 1 row) i))
+Inv-loop m k row t₀ i₀ t i = (i ≤ maxDependences) × (t ≡ weighted t₀ (over (t₀ .weights) 0 (drop (k - m) row) i))
 
 abbrev μ-loop : tie.MeasureT-loop
-μ-loop row t₀ i₀ t i = maxDependences - i
+μ-loop m k row t₀ i₀ t i = maxDependences - i
 
--- the lengths of the two arrays
+-- how many places the array of the weights has, before and after
 given-length : (c : tie.Start Inv-loop μ-loop) → length (c .args .s .weights) ≡ maxDependences
 given-length c = search needs
 
-weights-length : (c : tie.After-with-boundary Inv-loop μ-loop) → length (c .with-boundary .result .weights) ≡ maxDependences
-weights-length c = ap (λ (x : LoopNest). length (x .weights)) (c .with-boundary .ensures) ∙ given-length (c .before .before)
+weights-length : (c : tie.After-with-boundary-line Inv-loop μ-loop) → length (c .with-boundary-line .result .weights) ≡ maxDependences
+unfolding withBoundaryLine
+weights-length c = ap (λ (x : LoopNest). length (x .weights)) (c .with-boundary-line .ensures) ∙ given-length (c .before)
 
-row-length : (c : tie.Start Inv-loop μ-loop) → length (drop 1 (c .args .t2)) ≡ maxDependences
+-- the row has as many behind the boundary values
+row-length : (c : tie.Start Inv-loop μ-loop) → maxDependences ≤ length (drop (c .args .k - c .args .m) (c .args .t4))
 row-length c =
-    let h : length (c .args .t2) ≡ maxFields = search needs in
-    length-drop 1 (c .args .t2) ∙ omega (arith, h)
+    let h : length (c .args .t4) ≡ maxFields = search needs in
+    rw (length-drop (c .args .k - c .args .m) (c .args .t4)) (omega (arith, h, c .pre .2))
 
-array-copy-out-with-boundary : tie.Need-array-copy-out-with-boundary Inv-loop μ-loop
-array-copy-out-with-boundary c = search needs
-
-with-boundary-requires : tie.Need-with-boundary-requires Inv-loop μ-loop
-with-boundary-requires c κs = search needs
+with-boundary-line-requires : tie.Need-with-boundary-line-requires Inv-loop μ-loop
+with-boundary-line-requires c κs = search needs
 
 loop-holds : tie.Need-loop-holds Inv-loop μ-loop
 loop-holds c =
-    let s = c .with-boundary .result in
-    (omega arith, ap (weighted s) (sym (over-none (s .weights) 0 (drop 1 (c .before .before .args .t2)))))
+    let s = c .with-boundary-line .result in
+    let a = c .before .args in
+    (omega arith, ap (weighted s) (sym (over-none (s .weights) 0 (drop (a .k - a .m) (a .t4)))))
+
+sub-with-weight : tie.Need-sub-with-weight Inv-loop μ-loop
+sub-with-weight c = search needs
 
 add-with-weight : tie.Need-add-with-weight Inv-loop μ-loop
-add-with-weight c = omega arith
+add-with-weight c = search needs
 
 mul-with-weight : tie.Need-mul-with-weight Inv-loop μ-loop
-mul-with-weight c = omega arith
+mul-with-weight c = search needs
 
 array-copy-out-with-weight : tie.Need-array-copy-out-with-weight Inv-loop μ-loop
-array-copy-out-with-weight c = omega arith
+array-copy-out-with-weight c = search needs
 
 with-weight-requires : tie.Need-with-weight-requires Inv-loop μ-loop
 with-weight-requires c κs = search needs
 
 add-i : tie.Need-add-i Inv-loop μ-loop
-add-i c = omega arith
+add-i c = search needs
 
 loop-less : tie.Need-loop-less Inv-loop μ-loop
-loop-less c = omega arith
+loop-less c = search needs
 
 loop-again : tie.Need-loop-again Inv-loop μ-loop
 loop-again c =
     let l = c .before .before .before .loop in
     let b = c .before .before .before .before in
-    let d = b .before .before in
-    let row = d .args .t2 in
-    let z = getD row (l .i + 1) (pos 0) in
-    let o : l .i + 1 ≡ 1 + l .i = omega arith in
-    let there : z ≡ getD (drop 1 row) (l .i) (pos 0) = ap (λ j. getD row j (pos 0)) o ∙ sym (getD-drop 1 row (l .i) (pos 0)) in
+    let d = b .before in
+    let first = d .args .k - d .args .m in
+    let row = d .args .t4 in
+    let z = getD row (first + l .i) (pos 0) in
     let h = weights-length b in
     let g = row-length d in (
       omega arith,
-      weights-more (b .with-boundary .result) (l .t) (c .with-weight .result) (drop 1 row) (l .i) (toZ w64 (ofZ w64 z)) (omega arith) (told z (c .before .with-weight-arg .given) ∙ there)
+      weights-more (b .with-boundary-line .result) (l .t) (c .with-weight .result) (drop first row) (l .i) (toZ w64 (ofZ w64 z)) (omega arith)
+          (told z (c .before .with-weight-arg .given) ∙ sym (getD-drop first row (l .i) (pos 0)))
           (l .inv .1) (omega arith) (c .with-weight .ensures),
     )
 
@@ -85,13 +88,13 @@ unfolding withLastLine
 returns c =
     let l = c .before .loop in
     let b = c .before .before in
-    let s = b .with-boundary .result in
-    let row = b .before .before .args .t2 in
+    let s = b .with-boundary-line .result in
+    let a = b .before .args in
+    let row = drop (a .k - a .m) (a .t4) in
     let e : l .i ≡ maxDependences = omega arith in
-    let bound = told (getD row 0 (pos 0)) (b .before .with-boundary-arg .given) in
     l .inv .1
-    ∙ (ap (weighted s) (ap (over (s .weights) 0 (drop 1 row)) e ∙ over-all (s .weights) (drop 1 row) maxDependences (weights-length b))
-    ∙ (ap (λ (x : LoopNest). weighted x (take maxDependences (drop 1 row))) (b .with-boundary .ensures) ∙ (rw bound refl)))
+    ∙ (ap (weighted s) (ap (over (s .weights) 0 row) e ∙ over-all (s .weights) row maxDependences (weights-length b))
+    ∙ ap (λ (x : LoopNest). weighted x (take maxDependences row)) (b .with-boundary-line .ensures))
 
 pub with-last-line-spec : {M : Type 1} → statement M
 with-last-line-spec =
@@ -99,9 +102,9 @@ with-last-line-spec =
     (tie.spec
     Inv-loop
     μ-loop
-    array-copy-out-with-boundary
-    with-boundary-requires
+    with-boundary-line-requires
     loop-holds
+    sub-with-weight
     add-with-weight
     mul-with-weight
     array-copy-out-with-weight

@@ -14,10 +14,13 @@ use mir.Val.{toZ, ofZ}
 use Rattle.integers.proofs.Bounds.{told}
 use Rattle.integers.specs.Lists.{tab}
 use Rattle.nest.specs.declared.LoopNest.{LoopNest}
-use Rattle.nest.specs.Nest.{part, depthOf, countOf, timeOf, dependenceAt, dependencesOf, weightsOf, maxDepth}
+use Rattle.nest.specs.Nest.{part, depthOf, countOf, timeOf, dependenceAt, dependencesOf, boundariesOf, weightsOf}
+use Rattle.nest.specs.Nest.{maxDepth}
 use Rattle.nest_text.specs.Fields.{Bytes}
-use Rattle.nest_text.specs.Text.{line, lineLength, headerWidth, limitWidth}
+use Rattle.nest_text.specs.Text.{line, lineLength, headerWidth, limitWidth, lastOf}
+use Rattle.nest_text.specs.Reader.{valueCount}
 use Rattle.nest_text.specs.Stored.{Stored, InColumns, EachInColumns}
+use Rattle.nest_text.proofs.EqualValues.{last-part, values-few}
 use Rattle.nest_text.proofs.WriteLaws.{stored-more, stored-as, stored-length}
 use Rattle.nest.proofs.Spans.{Spans, spans}
 use Rattle.nest_text.proofs.TextLength.{shapeLine, limitLine, limitLines, text-parts, text-length}
@@ -69,7 +72,7 @@ call-3 c = c .before .before .before .before .before
 abbrev start-4 : tie.After-put-dependences → tie.Start
 start-4 c = start-3 (call-3 c)
 
-abbrev call-4 : tie.After-struct-told2 → tie.After-put-dependences
+abbrev call-4 : tie.After-put-last-arg → tie.After-put-dependences
 call-4 c = c .before .before .before .before .before
 
 -- ---- the bytes of the first lines, up to the call's own
@@ -166,11 +169,11 @@ four-end c =
     )
 
 -- the buffer has room for all of them
-room : (a : tie.Start) → let s = a .args .s in end-4 s + lineLength (countOf s + 1) ≤ length (a .args .out .now)
+room : (a : tie.Start) → let s = a .args .s in end-4 s + lineLength (valueCount (boundariesOf s) + countOf s) ≤ length (a .args .out .now)
 room a =
     let s = a .args .s in
     let w : lineLength (depthOf s) * (countOf s + 1) ≡ lineLength (depthOf s) * countOf s + lineLength (depthOf s) = ap (λ k. lineLength (depthOf s) * k) (add-one (countOf s)) ∙ mul-suc (lineLength (depthOf s)) (countOf s) in
-    omega (arith, a .pre .1 .1 .1, text-length s (have a), w)
+    omega (arith, a .pre .1 .1 .1 .1, text-length s (have a), w)
 
 slice-aggregate-put-line : tie.Need-slice-aggregate-put-line
 slice-aggregate-put-line c = search needs
@@ -212,19 +215,20 @@ put-dependences-requires c κs =
       ),
     )
 
--- the boundary value, as the machine holds it
-boundary-is : (c : tie.After-struct-told2) → let s = start-4 (call-4 c) .args .s in toZ w64 (ofZ w64 (s .boundary)) ≡ s .boundary
-boundary-is c = told (start-4 (call-4 c) .args .s .boundary) (c .struct-told2 .given .1 .1 .1 .1 .1 .1 .1 .0 .1)
+-- how many boundary values are written: no more than there are
+few-values : (a : tie.Start) → a .args .values ≤ countOf (a .args .s)
+few-values a = omega (arith, a .pre .1 .1 .1 .0, values-few (a .args .s) (have a .count-some) .1)
 
 put-last-requires : tie.Need-put-last-requires
 put-last-requires c κs =
     let d = call-4 c in
     let a = start-4 d in
-    let s = a .args .s in (
-      omega (arith, room a, four-end d, stored-length (four d), a .pre .1 .1 .0),
+    let s = a .args .s in
+    let m = a .pre .1 .1 .0 in (
+      omega (arith, room a, four-end d, stored-length (four d), m, a .pre .1 .1 .1 .0),
       (
-        omega (arith, a .pre .1 .1 .0, have a .count-few),
-        (subst InColumns (sym (boundary-is c)) (boundary-columns s (have a)), λ i l. weight-columns s (have a) i (omega (arith, a .pre .1 .1 .0))),
+        omega (arith, few-values a, have a .count-few),
+        (omega (arith, m, have a .count-few), (λ i l. boundary-columns s (have a) i (omega (arith, few-values a)), λ i l. weight-columns s (have a) i (omega (arith, m)))),
       ),
     )
 
@@ -238,8 +242,8 @@ returns c =
     let f = call-4 (d .before) in
     let a = start-4 f in
     let s = a .args .s in
-    let e = ap₂ (λ z m. line (z ∷ part (s .weights) 0 m)) (boundary-is (d .before)) (a .pre .1 .1 .0) in
-    let all = stored-as (text-parts s) (stored-more (four f) (stored-as e (d .put-last .ensures))) in
+    let e = ap₂ (λ v m. line (part (s .boundaries) 0 v ++ part (s .weights) 0 m)) (a .pre .1 .1 .1 .0) (a .pre .1 .1 .0) ∙ ap line (sym (last-part s (have a .count-some))) in
+    let all = stored-as (text-parts s (lastOf s)) (stored-more (four f) (stored-as e (d .put-last .ensures))) in
     record { bytes = all .bytes; ends = omega arith }
 
 pub put-text-spec : {M : Type 1} → statement M
