@@ -378,8 +378,9 @@ fn nests_by_name() -> Vec<(&'static str, LoopNest)> {
         ("P9-refused", two(64)),
         ("P10", one(1000)),
         ("P10-refused", one(1001)),
-        ("refused", changed(p2, |nest| nest.time_vector = vec![1, 0])),
         ("gray", row_of_64),
+        ("U1-two-values", changed(p2.clone(), |nest| nest.boundary_values = vec![1, 10])),
+        ("refused", changed(p2, |nest| nest.time_vector = vec![1, 0])),
     ]
 }
 

@@ -12,14 +12,14 @@ use lib.IntN.{ℤ, pos}
 use lib.ListN.{length, getD, take, drop, length-append, length-take, length-drop, length-replicate, length-map}
 use lib.ListN.{List·getD-eq-default}
 use lib.Seq.{drop-cons, drop-drop, drop-length, getD-drop, getD-take, take-suc, take-all, length-take-le}
-use Rattle.integers.specs.Lists.{any, tab}
-use Rattle.integers.proofs.Lists.{and-true, split}
+use Rattle.integers.specs.Lists.{any}
+use Rattle.integers.proofs.Lists.{split}
 use Rattle.nest.specs.declared.LoopNest.{LoopNest}
 use Rattle.nest.specs.Nest.{Limit, padded, nestOf, emptyNest, maxDepth, maxDependences}
 use Rattle.nest_text.specs.declared.reader.Line.{Line}
 use Rattle.nest_text.specs.declared.reader.Body.{Body}
-use Rattle.nest_text.specs.Fields.{Bytes, columns, newline}
-use Rattle.nest_text.specs.Text.{at, isMalformed, fieldAt, isLine, numbersOf, behind, areLines}
+use Rattle.nest_text.specs.Fields.{Bytes, columns}
+use Rattle.nest_text.specs.Text.{at, isLine, numbersOf, behind, areLines}
 use Rattle.nest_text.specs.Text.{lineNumbers, widths, shapes, fits, firstFitting, nestFrom}
 use Rattle.nest_text.specs.Reader.{maxFields, lineOf, lastWidth, withLine, filled, bodyRead}
 use Rattle.nest_text.proofs.FieldLaws.{rest-part}

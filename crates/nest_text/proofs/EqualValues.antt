@@ -1,15 +1,15 @@
 -- Whether boundary values are all equal, as a test and in words, and which last line is written for
 -- them.
 -- Assumes nothing.
-use mathlib.Core.Path.{_≡_, refl, sym, ap, ap₂, subst, _∙_}
+use mathlib.Core.Path.{_≡_, refl, sym, ap, subst, _∙_}
 use mathlib.Core.Bool.{true, false, not}
 use mathlib.Core.List.{List, [], _∷_, _++_}
-use mathlib.Core.Logic.{_⊎_, inl, inr, _↔_}
+use mathlib.Core.Logic.{inl, inr, _↔_}
 use Prim.Native.Nat.{ℕ, _+_, _≤_, _<_}
 use native.Mathlib.Nat.{zero-add}
 use native.Mathlib.Omega.{arith}
 use lib.IntN.{ℤ, pos}
-use lib.ListN.{length, getD, replicate, length-append, length-replicate, getD-replicate}
+use lib.ListN.{length, getD, replicate, length-replicate, getD-replicate}
 use lib.Seq.{ext-getD}
 use Rattle.integers.specs.Lists.{tab, place}
 use Rattle.integers.proofs.Lists.{split, clash, any-at, place-below, place-passes, getD-tab}
@@ -19,7 +19,7 @@ use Rattle.nest.specs.declared.LoopNest.{LoopNest}
 use Rattle.nest.specs.Nest.{part, countOf, boundariesOf, weightsOf}
 use Rattle.nest.proofs.Lengths.{boundaries-length}
 use Rattle.nest.proofs.Words.{part-at, part-length}
-use Rattle.nest_text.specs.Text.{at, shortLast, longLast, differ, lastOf, textWith, textOf}
+use Rattle.nest_text.specs.Text.{at, shortLast, longLast, differ, lastOf}
 use Rattle.nest_text.specs.Reader.{valueCount}
 use Rattle.nest_text.specs.Form.{LastSays, AllEqual}
 

@@ -13,9 +13,9 @@ use Rattle.nest.proofs.Answers.{answered-unique}
 use Rattle.nest_text.specs.declared.Reading.{Reading}
 use Rattle.nest_text.specs.Fields.{Bytes}
 use Rattle.nest_text.specs.Text.{readRefusal, readNest}
-use Rattle.nest_text.specs.Form.{Whole, readOrder, ReadSays}
+use Rattle.nest_text.specs.Form.{readOrder, ReadSays}
 use Rattle.nest_text.proofs.Answers.{read-answered}
-use Rattle.nest_text.proofs.ReadLaws.{header-zero, rest-form, whole-refused}
+use Rattle.nest_text.proofs.ReadLaws.{whole-refused}
 use Rattle.nest_text.proofs.RoundTrip.{read-is, whole-body, body-said}
 
 module _ (bs : Bytes) where

@@ -10,65 +10,8 @@ use lib.IntN.{ℤ, pos}
 use lib.ListN.{length, getD, take, drop, set, length-append, take-append-drop}
 use lib.Seq.{drop-cons, drop-length, set-at, take-suc, length-take-le}
 use Rattle.nest.specs.declared.LoopNest.{LoopNest}
-use Rattle.nest.specs.Nest.{withComponent, maxDepth, maxDependences}
-
--- ---- parts of a nest
-
--- the nest with another time vector
-abbrev pub timed : LoopNest → List ℤ → LoopNest
-timed s l = record {
-  depth = s .depth;
-  count = s .count;
-  cube = s .cube;
-  lower = s .lower;
-  upper = s .upper;
-  time = l;
-  dependences = s .dependences;
-  boundaries = s .boundaries;
-  weights = s .weights;
-}
-
--- with other dependences
-abbrev pub depending : LoopNest → List ℤ → LoopNest
-depending s l = record {
-  depth = s .depth;
-  count = s .count;
-  cube = s .cube;
-  lower = s .lower;
-  upper = s .upper;
-  time = s .time;
-  dependences = l;
-  boundaries = s .boundaries;
-  weights = s .weights;
-}
-
--- with other boundary values
-abbrev pub bounded : LoopNest → List ℤ → LoopNest
-bounded s l = record {
-  depth = s .depth;
-  count = s .count;
-  cube = s .cube;
-  lower = s .lower;
-  upper = s .upper;
-  time = s .time;
-  dependences = s .dependences;
-  boundaries = l;
-  weights = s .weights;
-}
-
--- with other weights
-abbrev pub weighted : LoopNest → List ℤ → LoopNest
-weighted s l = record {
-  depth = s .depth;
-  count = s .count;
-  cube = s .cube;
-  lower = s .lower;
-  upper = s .upper;
-  time = s .time;
-  dependences = s .dependences;
-  boundaries = s .boundaries;
-  weights = l;
-}
+use Rattle.nest.specs.Nest.{withComponent, withTimes, withDependences, withBoundaries, withWeights, maxDepth}
+use Rattle.nest.specs.Nest.{maxDependences}
 
 -- ---- an array with the first k numbers of a row from place `from` on
 abbrev pub over : List ℤ → ℕ → List ℤ → ℕ → List ℤ
@@ -112,39 +55,39 @@ over-all old row k e =
     ap (λ n. take k row ++ drop n old) z ∙ (ap (λ x. take k row ++ x) (drop-length old) ∙ append-nil (take k row))
 
 -- ---- one more number of the row in its place, which the machine holds as z
+
+-- in an array of a nest, which is read by `get` and set by `put`
+module _ (get : LoopNest → List ℤ) (put : LoopNest → List ℤ → LoopNest) (got : (s : LoopNest) (l : List ℤ) → get (put s l) ≡ l) (anew : (s : LoopNest) (l m : List ℤ) → put (put s l) m ≡ put s m) (s t r : LoopNest) (row : List ℤ) (k : ℕ) (z : ℤ) (l : k < length row) (q : z ≡ getD row k (pos 0)) where
+  -- behind the first k of the row
+  array-more : t ≡ put s (over (get s) 0 row k) → k < length (get s) → r ≡ put t (set (get t) k z) → r ≡ put s (over (get s) 0 row (k + 1))
+  array-more inv h e =
+      let o : k ≡ 0 + k = omega arith in
+      let old = over (get s) 0 row k in
+      e ∙ ap (λ (x : LoopNest). put x (set (get x) k z)) inv ∙ anew s old (set (get (put s old)) k z) ∙ ap (λ (xs : List ℤ). put s (set xs k z)) (got s old)
+      ∙ ap₂ (λ (j : ℕ) (v : ℤ). put s (set old j v)) o q ∙ ap (put s) (over-more (get s) 0 row k (omega arith) l)
+
 module _ (s t r : LoopNest) (row : List ℤ) (k : ℕ) (z : ℤ) (l : k < length row) (q : z ≡ getD row k (pos 0)) where
   -- of the time vector
-  pub time-more : t ≡ timed s (over (s .time) 0 row k) → k < length (s .time) → r ≡ timed t (set (t .time) k z)
-      → r ≡ timed s (over (s .time) 0 row (k + 1))
-  time-more inv h e =
-      let o : k ≡ 0 + k = omega arith in
-      e ∙ (ap (λ (x : LoopNest). timed x (set (x .time) k z)) inv
-      ∙ (ap₂ (λ (j : ℕ) (v : ℤ). timed s (set (over (s .time) 0 row k) j v)) o q ∙ ap (timed s) (over-more (s .time) 0 row k (omega arith) l)))
+  pub time-more : t ≡ withTimes s (over (s .time) 0 row k) → k < length (s .time) → r ≡ withTimes t (set (t .time) k z) → r ≡ withTimes s (over (s .time) 0 row (k + 1))
+  time-more = array-more (λ x. x .time) withTimes (λ x xs. refl) (λ x xs ys. refl) s t r row k z l q
 
   -- of the boundary values
-  pub boundaries-more : t ≡ bounded s (over (s .boundaries) 0 row k) → k < length (s .boundaries) → r ≡ bounded t (set (t .boundaries) k z)
-      → r ≡ bounded s (over (s .boundaries) 0 row (k + 1))
-  boundaries-more inv h e =
-      let o : k ≡ 0 + k = omega arith in
-      e ∙ (ap (λ (x : LoopNest). bounded x (set (x .boundaries) k z)) inv
-      ∙ (ap₂ (λ (j : ℕ) (v : ℤ). bounded s (set (over (s .boundaries) 0 row k) j v)) o q ∙ ap (bounded s) (over-more (s .boundaries) 0 row k (omega arith) l)))
+  pub boundaries-more : t ≡ withBoundaries s (over (s .boundaries) 0 row k) → k < length (s .boundaries) → r ≡ withBoundaries t (set (t .boundaries) k z)
+      → r ≡ withBoundaries s (over (s .boundaries) 0 row (k + 1))
+  boundaries-more = array-more (λ x. x .boundaries) withBoundaries (λ x xs. refl) (λ x xs ys. refl) s t r row k z l q
 
   -- of the weights
-  pub weights-more : t ≡ weighted s (over (s .weights) 0 row k) → k < length (s .weights) → r ≡ weighted t (set (t .weights) k z)
-      → r ≡ weighted s (over (s .weights) 0 row (k + 1))
-  weights-more inv h e =
-      let o : k ≡ 0 + k = omega arith in
-      e ∙ (ap (λ (x : LoopNest). weighted x (set (x .weights) k z)) inv
-      ∙ (ap₂ (λ (j : ℕ) (v : ℤ). weighted s (set (over (s .weights) 0 row k) j v)) o q ∙ ap (weighted s) (over-more (s .weights) 0 row k (omega arith) l)))
+  pub weights-more : t ≡ withWeights s (over (s .weights) 0 row k) → k < length (s .weights) → r ≡ withWeights t (set (t .weights) k z) → r ≡ withWeights s (over (s .weights) 0 row (k + 1))
+  weights-more = array-more (λ x. x .weights) withWeights (λ x xs. refl) (λ x xs ys. refl) s t r row k z l q
 
   -- of dependence i
-  pub dependence-more : (i : ℕ) → i < maxDependences → k < maxDepth → t ≡ depending s (over (s .dependences) (i * maxDepth) row k)
-      → i * maxDepth + k < length (s .dependences) → r ≡ depending t (withComponent (t .dependences) i k z)
-      → r ≡ depending s (over (s .dependences) (i * maxDepth) row (k + 1))
+  pub dependence-more : (i : ℕ) → i < maxDependences → k < maxDepth → t ≡ withDependences s (over (s .dependences) (i * maxDepth) row k)
+      → i * maxDepth + k < length (s .dependences) → r ≡ withDependences t (withComponent (t .dependences) i k z)
+      → r ≡ withDependences s (over (s .dependences) (i * maxDepth) row (k + 1))
   unfolding withComponent
   dependence-more i few low inv h e =
       let there : (xs : List ℤ) → withComponent xs i k z ≡ set xs (i * maxDepth + k) z = λ xs. rw (lt-ltb i maxDependences few, lt-ltb k maxDepth low, withComponent) refl in
-      e ∙ (ap (depending t) (there (t .dependences))
-      ∙ (ap (λ (x : LoopNest). depending x (set (x .dependences) (i * maxDepth + k) z)) inv
-      ∙ (ap (λ v. depending s (set (over (s .dependences) (i * maxDepth) row k) (i * maxDepth + k) v)) q
-      ∙ ap (depending s) (over-more (s .dependences) (i * maxDepth) row k h l))))
+      e ∙ (ap (withDependences t) (there (t .dependences))
+      ∙ (ap (λ (x : LoopNest). withDependences x (set (x .dependences) (i * maxDepth + k) z)) inv
+      ∙ (ap (λ v. withDependences s (set (over (s .dependences) (i * maxDepth) row k) (i * maxDepth + k) v)) q
+      ∙ ap (withDependences s) (over-more (s .dependences) (i * maxDepth) row k h l))))

@@ -5,7 +5,6 @@ use crate::LIMIT_FIELDS;
 use nest::LoopNest;
 ghost use mathlib.Core.Path.{_≡_};
 ghost use Prim.Native.Nat.{_≤_};
-ghost use lib.ListN.{length};
 ghost use Rattle.nest.specs.Nest.{part, maxDepth, maxDependences};
 ghost use Rattle.nest_text.specs.Text.{bodyLength, textLength};
 ghost use Rattle.nest_text.specs.Reader.{maxFields, lastWidth, valueCount};

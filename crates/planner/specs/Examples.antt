@@ -7,7 +7,7 @@ use mathlib.Core.Path.{_≡_, refl}
 use mathlib.Core.Bool.{Bool, true, false, _&&_}
 use mathlib.Core.List.{List, [], _∷_, map, flatMap, zipWith}
 use mathlib.Core.Option.{Option, none, some}
-use Prim.Native.Nat.{ℕ, _-_}
+use Prim.Native.Nat.{ℕ}
 use lib.Dec.{eqb}
 use lib.IntN.{pos, negℤ}
 use lib.ListN.{length, getD}
@@ -178,27 +178,28 @@ listedPlan =
     ∷ "     5     3     0     0   276"
     ∷ [])
 
--- The same nest with a boundary value for each dependence (document 02, U1), 1 along (0,1) and 9
--- along (1,0). By hand, rank + 2 × what (0,1) reads + 3 × what (1,0) reads: 0 + 2·1 + 3·9 = 29,
--- where both sources are outside; 1 + 2·29 + 3·9 = 86; 2 + 2·86 + 3·9 = 201; 3 + 2·1 + 3·29 = 92;
--- 4 + 2·92 + 3·86 = 446; 5 + 2·446 + 3·201 = 1500. Steps, blocks and processors are as before.
+-- The same nest with a boundary value for each dependence (document 02, U1), 1 along (0,1) and 10
+-- along (1,0). By hand, rank + 2 × what (0,1) reads + 3 × what (1,0) reads: 0 + 2·1 + 3·10 = 32,
+-- where both sources are outside; 1 + 2·32 + 3·10 = 95; 2 + 2·95 + 3·10 = 222;
+-- 3 + 2·1 + 3·32 = 101; 4 + 2·101 + 3·95 = 491; 5 + 2·491 + 3·222 = 1653. Steps, blocks and
+-- processors are as before.
 unfoldable pub apart : LoopNest
-apart = listedWith (1 ∷ 9 ∷ [])
+apart = listedWith (1 ∷ 10 ∷ [])
 
 unfoldable pub apartText : Bytes
 apartText = lines ("     2     2     1" ∷ "     0     1" ∷ "     0     2" ∷ "     1     1" ∷ "     0     1"
-    ∷ "     1     0" ∷ "     1     9     2     3" ∷ [])
+    ∷ "     1     0" ∷ "     1    10     2     3" ∷ [])
 
 unfoldable pub apartPlan : Bytes
 apartPlan =
     lines (
     "     6     4     3     2     2"
-    ∷ "     0     0     0     0    29"
-    ∷ "     1     1     0     0    86"
-    ∷ "     2     2     1     1   201"
-    ∷ "     3     1     2     0    92"
-    ∷ "     4     2     0     0   446"
-    ∷ "     5     3     0     0  1500"
+    ∷ "     0     0     0     0    32"
+    ∷ "     1     1     0     0    95"
+    ∷ "     2     2     1     1   222"
+    ∷ "     3     1     2     0   101"
+    ∷ "     4     2     0     0   491"
+    ∷ "     5     3     0     0  1653"
     ∷ [])
 
 unfoldable pub table : List Case

@@ -39,7 +39,7 @@ use Rattle.execution.proofs.Answers.{move-answered}
 use Rattle.nest_text.specs.Fields.{Bytes}
 use Rattle.nest_text.specs.declared.Reading.{Reading}
 use Rattle.nest_text.specs.declared.Writing.{Writing}
-use Rattle.nest_text.specs.Text.{shortLast, textWith, textOf, readRefusal, readNest, writeRefusal, writeOrder, Puts}
+use Rattle.nest_text.specs.Text.{shortLast, textWith, textOf, readRefusal, readNest, writeRefusal, writeOrder}
 use Rattle.nest_text.specs.Text.{Writes}
 use Rattle.nest_text.specs.Form.{LongEqual}
 use Rattle.nest_text.specs.Form.{readOrder}

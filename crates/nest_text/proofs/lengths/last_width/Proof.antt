@@ -1,6 +1,6 @@
 -- `last_width` tells the last line by the number of bytes.
 use borrow.Author.Needs.{needs}
-use mathlib.Core.Path.{_≡_, sym, _∙_}
+use mathlib.Core.Path.{sym, _∙_}
 use native.Mathlib.Omega.{arith}
 use Rattle.nest_text.proofs.LastLine.{width-short, width-long}
 use Rattle.nest_text.proofs.lengths.last_width.Statement.{statement}

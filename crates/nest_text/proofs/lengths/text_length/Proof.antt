@@ -1,6 +1,6 @@
 -- `text_length` adds line 1 to what stands behind it.
 use borrow.Author.Needs.{needs}
-use Prim.Native.Nat.{_+_, _*_, _≤_}
+use Prim.Native.Nat.{_+_, _≤_}
 use native.Mathlib.Nat.{mul-le-mul}
 use native.Mathlib.Omega.{arith}
 use Rattle.nest.specs.Nest.{maxDepth, maxDependences}

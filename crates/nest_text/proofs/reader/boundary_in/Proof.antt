@@ -1,7 +1,6 @@
 -- `boundary_in` answers the boundary value of one dependence.
 use borrow.Author.Needs.{needs}
-use mathlib.Core.Path.{_≡_, sym, ap, _∙_}
-use native.Mathlib.Omega.{arith}
+use mathlib.Core.Path.{sym, ap, _∙_}
 use lib.IntN.{pos}
 use lib.ListN.{getD-replicate}
 use lib.Seq.{getD-take}

@@ -5,23 +5,22 @@ use mathlib.Core.Path.{_≡_, sym, ap, ap₂, _∙_}
 use mathlib.Core.List.{List, _++_}
 use Prim.Native.Nat.{ℕ, _+_, _-_, _≤_}
 use native.Mathlib.Omega.{arith}
-use lib.IntN.{ℤ, pos}
-use lib.ListN.{length, getD, take, drop}
+use lib.IntN.{ℤ}
+use lib.ListN.{length, take, drop}
 use lib.Seq.{take-all}
 use mir.Syntax.{w64}
 use mir.Val.{toZ, ofZ}
 use Rattle.integers.proofs.Bounds.{told}
-use Rattle.nest.specs.declared.LoopNest.{LoopNest}
-use Rattle.nest.specs.Nest.{maxDependences}
+use Rattle.nest.specs.Nest.{withBoundaries, maxDependences}
 use Rattle.nest_text.specs.Text.{boundariesIn}
 use Rattle.nest_text.specs.Reader.{maxFields, withBoundaryLine}
 use Rattle.nest_text.proofs.LastLine.{boundaries-count}
-use Rattle.nest_text.proofs.StoreLaws.{bounded, over, over-none, boundaries-more}
+use Rattle.nest_text.proofs.StoreLaws.{over, over-none, boundaries-more}
 use Rattle.nest_text.proofs.reader.with_boundary_line.Statement.{statement}
 use Rattle.nest_text.proofs.reader.with_boundary_line.Tie as tie
 
 abbrev Inv-loop : tie.InvT-loop
-Inv-loop m k row t₀ i₀ t i = (i ≤ m) × (t ≡ bounded t₀ (over (t₀ .boundaries) 0 (boundariesIn m k row) i))
+Inv-loop m k row t₀ i₀ t i = (i ≤ m) × (t ≡ withBoundaries t₀ (over (t₀ .boundaries) 0 (boundariesIn m k row) i))
 
 abbrev μ-loop : tie.MeasureT-loop
 μ-loop m k row t₀ i₀ t i = m - i
@@ -38,7 +37,7 @@ values-length c =
 loop-holds : tie.Need-loop-holds Inv-loop μ-loop
 loop-holds c =
     let a = c .args in
-    (omega arith, ap (bounded (a .s)) (sym (over-none (a .s .boundaries) 0 (boundariesIn (a .m) (a .k) (a .row)))))
+    (omega arith, ap (withBoundaries (a .s)) (sym (over-none (a .s .boundaries) 0 (boundariesIn (a .m) (a .k) (a .row)))))
 
 boundary-in-requires : tie.Need-boundary-in-requires Inv-loop μ-loop
 boundary-in-requires c κs = search needs
@@ -74,7 +73,7 @@ returns c =
     let e : l .i ≡ a .m = omega arith in
     let z : 0 + a .m ≡ a .m = omega arith in
     let all : take (a .m) values ≡ values = take-all (a .m) values (omega (arith, values-length s)) in
-    l .inv .1 ∙ ap (λ j. bounded (a .s) (over (a .s .boundaries) 0 values j)) e ∙ ap₂ (λ (x : List ℤ) (j : ℕ). bounded (a .s) (x ++ drop j (a .s .boundaries))) all z
+    l .inv .1 ∙ ap (λ j. withBoundaries (a .s) (over (a .s .boundaries) 0 values j)) e ∙ ap₂ (λ (x : List ℤ) (j : ℕ). withBoundaries (a .s) (x ++ drop j (a .s .boundaries))) all z
 
 pub with-boundary-line-spec : {M : Type 1} → statement M
 with-boundary-line-spec =

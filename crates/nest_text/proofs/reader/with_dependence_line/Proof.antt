@@ -9,14 +9,14 @@ use lib.ListN.{length, getD}
 use mir.Syntax.{w64}
 use mir.Val.{toZ, ofZ}
 use Rattle.integers.proofs.Bounds.{told}
-use Rattle.nest.specs.Nest.{maxDepth, maxDependences}
+use Rattle.nest.specs.Nest.{withDependences, maxDepth, maxDependences}
 use Rattle.nest_text.specs.Reader.{maxFields, withDependenceLine}
-use Rattle.nest_text.proofs.StoreLaws.{depending, over, over-none, dependence-more}
+use Rattle.nest_text.proofs.StoreLaws.{over, over-none, dependence-more}
 use Rattle.nest_text.proofs.reader.with_dependence_line.Statement.{statement}
 use Rattle.nest_text.proofs.reader.with_dependence_line.Tie as tie
 
 abbrev Inv-loop : tie.InvT-loop
-Inv-loop i row t₀ k₀ t k = (k ≤ maxDepth) × (t ≡ depending t₀ (over (t₀ .dependences) (i * maxDepth) row k))
+Inv-loop i row t₀ k₀ t k = (k ≤ maxDepth) × (t ≡ withDependences t₀ (over (t₀ .dependences) (i * maxDepth) row k))
 
 abbrev μ-loop : tie.MeasureT-loop
 μ-loop i row t₀ k₀ t k = maxDepth - k
@@ -31,7 +31,7 @@ row-length c = search needs
 loop-holds : tie.Need-loop-holds Inv-loop μ-loop
 loop-holds c =
     let a = c .args in
-    (omega arith, ap (depending (a .s)) (sym (over-none (a .s .dependences) (a .i * maxDepth) (a .t3))))
+    (omega arith, ap (withDependences (a .s)) (sym (over-none (a .s .dependences) (a .i * maxDepth) (a .t3))))
 
 mul-with-dependence : tie.Need-mul-with-dependence Inv-loop μ-loop
 mul-with-dependence c = omega arith
@@ -67,7 +67,7 @@ returns c =
     let l = c .before .loop in
     let a = c .before .before .args in
     let e : l .k ≡ maxDepth = omega arith in
-    l .inv .1 ∙ ap (λ j. depending (a .s) (over (a .s .dependences) (a .i * maxDepth) (a .t3) j)) e
+    l .inv .1 ∙ ap (λ j. withDependences (a .s) (over (a .s .dependences) (a .i * maxDepth) (a .t3) j)) e
 
 pub with-dependence-line-spec : {M : Type 1} → statement M
 with-dependence-line-spec =

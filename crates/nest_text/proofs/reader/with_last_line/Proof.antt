@@ -1,7 +1,7 @@
 -- `with_last_line` puts the boundary values and the weights in their places. The invariant: the
 -- first i weights stand there.
-use mathlib.Core.Path.{_≡_, refl, sym, ap, _∙_}
-use Prim.Native.Nat.{ℕ, _+_, _-_, _≤_}
+use mathlib.Core.Path.{_≡_, sym, ap, _∙_}
+use Prim.Native.Nat.{_+_, _-_, _≤_}
 use native.Mathlib.Omega.{arith}
 use borrow.Author.Needs.{needs}
 use lib.IntN.{pos}
@@ -11,14 +11,14 @@ use mir.Syntax.{w64}
 use mir.Val.{toZ, ofZ}
 use Rattle.integers.proofs.Bounds.{told}
 use Rattle.nest.specs.declared.LoopNest.{LoopNest}
-use Rattle.nest.specs.Nest.{maxDependences}
+use Rattle.nest.specs.Nest.{withWeights, maxDependences}
 use Rattle.nest_text.specs.Reader.{maxFields, withBoundaryLine, withLastLine}
-use Rattle.nest_text.proofs.StoreLaws.{weighted, over, over-none, over-all, weights-more}
+use Rattle.nest_text.proofs.StoreLaws.{over, over-none, over-all, weights-more}
 use Rattle.nest_text.proofs.reader.with_last_line.Statement.{statement}
 use Rattle.nest_text.proofs.reader.with_last_line.Tie as tie
 
 abbrev Inv-loop : tie.InvT-loop
-Inv-loop m k row t₀ i₀ t i = (i ≤ maxDependences) × (t ≡ weighted t₀ (over (t₀ .weights) 0 (drop (k - m) row) i))
+Inv-loop m k row t₀ i₀ t i = (i ≤ maxDependences) × (t ≡ withWeights t₀ (over (t₀ .weights) 0 (drop (k - m) row) i))
 
 abbrev μ-loop : tie.MeasureT-loop
 μ-loop m k row t₀ i₀ t i = maxDependences - i
@@ -44,7 +44,7 @@ loop-holds : tie.Need-loop-holds Inv-loop μ-loop
 loop-holds c =
     let s = c .with-boundary-line .result in
     let a = c .before .args in
-    (omega arith, ap (weighted s) (sym (over-none (s .weights) 0 (drop (a .k - a .m) (a .t4)))))
+    (omega arith, ap (withWeights s) (sym (over-none (s .weights) 0 (drop (a .k - a .m) (a .t4)))))
 
 sub-with-weight : tie.Need-sub-with-weight Inv-loop μ-loop
 sub-with-weight c = search needs
@@ -93,8 +93,8 @@ returns c =
     let row = drop (a .k - a .m) (a .t4) in
     let e : l .i ≡ maxDependences = omega arith in
     l .inv .1
-    ∙ (ap (weighted s) (ap (over (s .weights) 0 row) e ∙ over-all (s .weights) row maxDependences (weights-length b))
-    ∙ ap (λ (x : LoopNest). weighted x (take maxDependences row)) (b .with-boundary-line .ensures))
+    ∙ (ap (withWeights s) (ap (over (s .weights) 0 row) e ∙ over-all (s .weights) row maxDependences (weights-length b))
+    ∙ ap (λ (x : LoopNest). withWeights x (take maxDependences row)) (b .with-boundary-line .ensures))
 
 pub with-last-line-spec : {M : Type 1} → statement M
 with-last-line-spec =

@@ -9,14 +9,14 @@ use lib.ListN.{length, getD}
 use mir.Syntax.{w64}
 use mir.Val.{toZ, ofZ}
 use Rattle.integers.proofs.Bounds.{told}
-use Rattle.nest.specs.Nest.{maxDepth}
+use Rattle.nest.specs.Nest.{withTimes, maxDepth}
 use Rattle.nest_text.specs.Reader.{maxFields, withTimeLine}
-use Rattle.nest_text.proofs.StoreLaws.{timed, over, over-none, over-all, time-more}
+use Rattle.nest_text.proofs.StoreLaws.{over, over-none, over-all, time-more}
 use Rattle.nest_text.proofs.reader.with_time_line.Statement.{statement}
 use Rattle.nest_text.proofs.reader.with_time_line.Tie as tie
 
 abbrev Inv-loop : tie.InvT-loop
-Inv-loop row t₀ k₀ t k = (k ≤ maxDepth) × (t ≡ timed t₀ (over (t₀ .time) 0 row k))
+Inv-loop row t₀ k₀ t k = (k ≤ maxDepth) × (t ≡ withTimes t₀ (over (t₀ .time) 0 row k))
 
 abbrev μ-loop : tie.MeasureT-loop
 μ-loop row t₀ k₀ t k = maxDepth - k
@@ -29,7 +29,7 @@ row-length : (c : tie.Start Inv-loop μ-loop) → length (c .args .t2) ≡ maxFi
 row-length c = search needs
 
 loop-holds : tie.Need-loop-holds Inv-loop μ-loop
-loop-holds c = let s = c .args .s in (omega arith, ap (timed s) (sym (over-none (s .time) 0 (c .args .t2))))
+loop-holds c = let s = c .args .s in (omega arith, ap (withTimes s) (sym (over-none (s .time) 0 (c .args .t2))))
 
 mul-with-time : tie.Need-mul-with-time Inv-loop μ-loop
 mul-with-time c = omega arith
@@ -64,7 +64,7 @@ returns c =
     let l = c .before .loop in
     let a = c .before .before .args in
     let e : l .k ≡ maxDepth = omega arith in
-    l .inv .1 ∙ ap (timed (a .s)) (ap (over (a .s .time) 0 (a .t2)) e ∙ over-all (a .s .time) (a .t2) maxDepth (time-length (c .before .before)))
+    l .inv .1 ∙ ap (withTimes (a .s)) (ap (over (a .s .time) 0 (a .t2)) e ∙ over-all (a .s .time) (a .t2) maxDepth (time-length (c .before .before)))
 
 pub with-time-line-spec : {M : Type 1} → statement M
 with-time-line-spec =

@@ -19,7 +19,7 @@ use Rattle.nest.specs.Nest.{maxDepth}
 use Rattle.nest_text.specs.Fields.{Bytes}
 use Rattle.nest_text.specs.Text.{line, lineLength, headerWidth, limitWidth, lastOf}
 use Rattle.nest_text.specs.Reader.{valueCount}
-use Rattle.nest_text.specs.Stored.{Stored, InColumns, EachInColumns}
+use Rattle.nest_text.specs.Stored.{Stored, EachInColumns}
 use Rattle.nest_text.proofs.EqualValues.{last-part, values-few}
 use Rattle.nest_text.proofs.WriteLaws.{stored-more, stored-as, stored-length}
 use Rattle.nest.proofs.Spans.{Spans, spans}
