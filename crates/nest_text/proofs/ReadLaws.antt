@@ -10,7 +10,7 @@ use lib.IntN.{ℤ, pos}
 use lib.ListN.{length, take, drop}
 use lib.Seq.{take-nil, drop-nil}
 use Rattle.nest.specs.declared.LoopNest.{LoopNest}
-use Rattle.nest.specs.Nest.{depthOf, countOf, padded, emptyNest}
+use Rattle.nest.specs.Nest.{depthOf, countOf, padded, emptyNest, withShape}
 use Rattle.nest.specs.Refusals.{holds, firstMet, headerOrder, bodyOrder, orElse, refusal}
 use Rattle.nest.proofs.Entries.{orElse-first, orElse-second, orElse-assoc, orElse-zero}
 use Rattle.nest.proofs.FirstMet.{behind-header}
@@ -47,32 +47,18 @@ form-kept false e = absurd (omega arith)
 
 -- ---- the shape that line 1 says
 
--- a nest with another depth, number of dependences and cube dimension
-abbrev shaped : LoopNest → ℤ → ℤ → ℤ → LoopNest
-shaped s n m c = record {
-  depth = n;
-  count = m;
-  cube = c;
-  lower = s .lower;
-  upper = s .upper;
-  time = s .time;
-  dependences = s .dependences;
-  boundaries = s .boundaries;
-  weights = s .weights;
-}
-
--- the numbers of line 1 by themselves are such a nest
-headed-shaped : (zs : List ℤ) → headed zs ≡ shaped emptyNest (at zs 0) (at zs 1) (at zs 2)
+-- the numbers of line 1 by themselves are a nest that is else empty
+headed-shaped : (zs : List ℤ) → headed zs ≡ withShape emptyNest (at zs 0) (at zs 1) (at zs 2)
 unfolding headed emptyNest
 headed-shaped zs = refl
 
 -- so is what line 1 says
-header-shaped : (bs : Bytes) → headerOf bs ≡ shaped emptyNest (at (headerNumbers bs) 0) (at (headerNumbers bs) 1) (at (headerNumbers bs) 2)
+header-shaped : (bs : Bytes) → headerOf bs ≡ withShape emptyNest (at (headerNumbers bs) 0) (at (headerNumbers bs) 1) (at (headerNumbers bs) 2)
 unfolding headerOf
 header-shaped bs = headed-shaped (headerNumbers bs)
 
 -- and it is told by its shape
-header-self : (bs : Bytes) → headerOf bs ≡ shaped emptyNest (headerOf bs .depth) (headerOf bs .count) (headerOf bs .cube)
+header-self : (bs : Bytes) → headerOf bs ≡ withShape emptyNest (headerOf bs .depth) (headerOf bs .count) (headerOf bs .cube)
 unfolding headerOf headed emptyNest
 header-self bs = refl
 
@@ -82,14 +68,14 @@ unfolding filled
 filled-shape n m c ls = (refl, refl, refl)
 
 -- before any line is read it has its shape alone
-filled-none : (n m : ℕ) (c : ℤ) → filled n m c [] ≡ shaped emptyNest (pos n) (pos m) c
+filled-none : (n m : ℕ) (c : ℤ) → filled n m c [] ≡ withShape emptyNest (pos n) (pos m) c
 unfolding filled padded emptyNest flatMap
 filled-none n m c = rw (take-nil n, drop-nil (n + 1), take-nil m, boundaries-none m, drop-nil (0 - m)) refl
 
 -- the refusals of line 1 look at the shape alone
 pub same-shape : (s t : LoopNest) → s .depth ≡ t .depth → s .count ≡ t .count → s .cube ≡ t .cube → firstMet s headerOrder ≡ firstMet t headerOrder
 unfolding firstMet holds
-same-shape s t p q r = λ i. firstMet (shaped s (p i) (q i) (r i)) headerOrder
+same-shape s t p q r = λ i. firstMet (withShape s (p i) (q i) (r i)) headerOrder
 
 -- a nest with line 1's numbers gives both answers for line 1
 pub record Headed (bs : Bytes) (h : LoopNest) : Type 0 where
@@ -176,7 +162,7 @@ module _ (bs : Bytes) where
     line-refused o = header-refused 1 (header-malformed (header-one bs ∙ unanswered headerWidth bs l read o)) (λ e. absurd (omega arith))
 
     -- the nest that is made of line 1's numbers
-    pub header-read : l .ok ≡ true → (s h : LoopNest) → s ≡ emptyNest → h ≡ shaped s (at (l .numbers) 0) (at (l .numbers) 1) (at (l .numbers) 2) → Headed bs h
+    pub header-read : l .ok ≡ true → (s h : LoopNest) → s ≡ emptyNest → h ≡ withShape s (at (l .numbers) 0) (at (l .numbers) 1) (at (l .numbers) 2) → Headed bs h
     header-read o s h none made = headed-by h is (ap (λ (x : LoopNest). firstMet x headerOrder) is ∙ sym (header-checked form))
       where
         form : isHeaded bs ≡ true
@@ -189,7 +175,7 @@ module _ (bs : Bytes) where
         row k = ap (λ (x : List ℤ). at x k) (answered headerWidth bs l read o .1) ∙ (at-padded maxFields zs k ∙ ap (λ (x : List ℤ). at x k) (sym (header-numbers bs form)))
 
         is : h ≡ headerOf bs
-        is = made ∙ (ap (λ (x : LoopNest). shaped x (at (l .numbers) 0) (at (l .numbers) 1) (at (l .numbers) 2)) none ∙ (rw (row 0, row 1, row 2) (sym (header-shaped bs))))
+        is = made ∙ (ap (λ (x : LoopNest). withShape x (at (l .numbers) 0) (at (l .numbers) 1) (at (l .numbers) 2)) none ∙ (rw (row 0, row 1, row 2) (sym (header-shaped bs))))
 
   -- ---- the lines behind line 1, where it passed
   module _ (none : headerRefusal bs ≡ 0) where

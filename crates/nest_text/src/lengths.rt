@@ -1,4 +1,4 @@
-// How many bytes a text has.
+// How long a text is: its bytes, and the fields of its last line.
 use crate::COLUMNS;
 use crate::HEADER_FIELDS;
 use crate::LIMIT_FIELDS;
