@@ -28,14 +28,22 @@ static int failures, round_at_start;
     } while (0)
 
 /* clang-format off */
-static const char text[] =
-    "     2     2     1\n"
-    "     0     1\n"
-    "     0     2\n"
-    "     1     1\n"
-    "     0     1\n"
+/* the nest of document 01's listing, but for its boundary values: all lines but the last, and as
+ * numbers */
+#define LINES_BEFORE_THE_LAST \
+    "     2     2     1\n" \
+    "     0     1\n" \
+    "     0     2\n" \
+    "     1     1\n" \
+    "     0     1\n" \
     "     1     0\n"
-    "     1     2     3\n";
+#define NEST_OUTSIDE_OF_WHICH_IS(left, above) { \
+    .depth = 2, .count = 2, .cube = 1, \
+    .upper = {1, 2}, .time = {1, 1}, .dependences = {0, 1, 0, 1, 0, 0}, \
+    .boundaries = {left, above}, .weights = {2, 3}, \
+}
+
+static const char text[] = LINES_BEFORE_THE_LAST "     1     2     3\n";
 static const char listing[] =
     "     6     4     3     2     2\n"
     "     0     0     0     0     5\n"
@@ -45,36 +53,14 @@ static const char listing[] =
     "     4     2     0     0    86\n"
     "     5     3     0     0   276\n";
 
-static const struct rowlock_nest whole = {
-    .depth = 2, .count = 2, .cube = 1,
-    .upper = {1, 2}, .time = {1, 1}, .dependences = {0, 1, 0, 1, 0, 0},
-    .boundaries = {1, 1}, .weights = {2, 3},
-};
+static const struct rowlock_nest whole = NEST_OUTSIDE_OF_WHICH_IS(1, 1);
 
 /* the same nest in the long form, which is written again as the text above */
-static const char equal_text[] =
-    "     2     2     1\n"
-    "     0     1\n"
-    "     0     2\n"
-    "     1     1\n"
-    "     0     1\n"
-    "     1     0\n"
-    "     1     1     2     3\n";
+static const char equal_text[] = LINES_BEFORE_THE_LAST "     1     1     2     3\n";
 
 /* and with boundary value 1 for (0,1) and 10 for (1,0) */
-static const char different_text[] =
-    "     2     2     1\n"
-    "     0     1\n"
-    "     0     2\n"
-    "     1     1\n"
-    "     0     1\n"
-    "     1     0\n"
-    "     1    10     2     3\n";
-static const struct rowlock_nest different = {
-    .depth = 2, .count = 2, .cube = 1,
-    .upper = {1, 2}, .time = {1, 1}, .dependences = {0, 1, 0, 1, 0, 0},
-    .boundaries = {1, 10}, .weights = {2, 3},
-};
+static const char different_text[] = LINES_BEFORE_THE_LAST "     1    10     2     3\n";
+static const struct rowlock_nest different = NEST_OUTSIDE_OF_WHICH_IS(1, 10);
 /* clang-format on */
 
 /* A value is the rank, 2 times what is on the left, and 3 times what is above; 1 is on the left of
