@@ -1,6 +1,6 @@
 /* Calls every function of the library from C, with valid and damaged input, on the nest of document
  * 01's listing; what must be answered and left is from there. Then the same nest with a boundary
- * value for each dependence, whose values are worked out below.
+ * value for each dependence, whose values are worked out below, and a nest of four loops.
  *
  * Each buffer is lent between two pages that may not be touched: in a first round its last byte
  * stands before the second, in a second round its first byte behind the first. A byte out of
@@ -39,7 +39,7 @@ static int failures, round_at_start;
     "     1     0\n"
 #define NEST_OUTSIDE_OF_WHICH_IS(left, above) { \
     .depth = 2, .count = 2, .cube = 1, \
-    .upper = {1, 2}, .time = {1, 1}, .dependences = {0, 1, 0, 1, 0, 0}, \
+    .upper = {1, 2}, .time = {1, 1}, .dependences = {0, 1, 0, 0, 1, 0, 0, 0}, \
     .boundaries = {left, above}, .weights = {2, 3}, \
 }
 
@@ -61,7 +61,40 @@ static const char equal_text[] = LINES_BEFORE_THE_LAST "     1     1     2     3
 /* and with boundary value 1 for (0,1) and 10 for (1,0) */
 static const char different_text[] = LINES_BEFORE_THE_LAST "     1    10     2     3\n";
 static const struct rowlock_nest different = NEST_OUTSIDE_OF_WHICH_IS(1, 10);
+
+/* four loops of two indices, and a dependence along each, the innermost first
+ * (examples/U11-four-loops.txt) */
+static const char four_text[] =
+    "     4     4     2\n"
+    "     0     1\n"
+    "     0     1\n"
+    "     0     1\n"
+    "     0     1\n"
+    "     1     1     1     1\n"
+    "     0     0     0     1\n"
+    "     0     0     1     0\n"
+    "     0     1     0     0\n"
+    "     1     0     0     0\n"
+    "     1     1     1     1     1\n";
+static const struct rowlock_nest four = {
+    .depth = 4, .count = 4, .cube = 2,
+    .upper = {1, 1, 1, 1}, .time = {1, 1, 1, 1},
+    .dependences = {0, 0, 0, 1, 0, 0, 1, 0, 0, 1, 0, 0, 1, 0, 0, 0},
+    .boundaries = {1, 1, 1, 1}, .weights = {1, 1, 1, 1},
+};
 /* clang-format on */
+
+/* its plan, as it is worked out by hand in second/src/worked.rs */
+#define FOUR_ITERATIONS 16
+static const uint32_t four_steps[FOUR_ITERATIONS] = {0, 1, 1, 2, 1, 2, 2, 3,
+                                                     1, 2, 2, 3, 2, 3, 3, 4};
+static const uint16_t four_blocks[FOUR_ITERATIONS] = {0, 0, 1, 1, 2, 2, 3,  3,
+                                                      4, 5, 6, 7, 8, 9, 10, 0};
+static const uint8_t four_processors[FOUR_ITERATIONS] = {2, 2, 3, 3, 2, 2, 3, 3,
+                                                         0, 2, 0, 2, 0, 2, 0, 2};
+static const uint16_t four_values[FOUR_ITERATIONS] = {4,  8,  9,  22,  11, 26,  28,  84,
+                                                      15, 34, 36, 104, 40, 114, 119, 436};
+static const size_t four_counts[5] = {16, 5, 11, 3, 14};
 
 /* A value is the rank, 2 times what is on the left, and 3 times what is above; 1 is on the left of
  * column 0, and 10 is above row 0:
@@ -134,39 +167,51 @@ struct damage {
     uint8_t refusal;
 };
 
-/* places: depth, count, cube 0 to 2, lower 3, upper 6, time 9, dependences 12, boundaries 36,
- * weights 44. Places 38 to 43 and 46 to 51, of the third dependence to the eighth, are no part of
- * the nest. */
+/* places: depth, count, cube 0 to 2, lower 3, upper 7, time 11, dependences 15, boundaries 47,
+ * weights 55. Of each four places for the loops the last two are no part of the nest, and neither
+ * are those of the third dependence to the eighth: 23 to 46, 49 to 54, 57 to 62. */
 static const struct damage damages[] = {
-    {51, 0, 51, 0, ROWLOCK_DONE},
-    {51, INT64_MIN, 5, INT64_MAX, ROWLOCK_DONE},
-    {14, 999, 18, INT64_MIN, ROWLOCK_DONE},
-    {38, 7, 46, 7, ROWLOCK_DONE},
-    {38, 65536, 46, 256, ROWLOCK_DONE},
-    {43, INT64_MIN, 38, INT64_MAX, ROWLOCK_DONE},
+    {62, 0, 62, 0, ROWLOCK_DONE},
+    {62, INT64_MIN, 5, INT64_MAX, ROWLOCK_DONE},
+    {17, 999, 23, INT64_MIN, ROWLOCK_DONE},
+    {6, INT64_MIN, 10, INT64_MAX, ROWLOCK_DONE},
+    {6, 1, 10, 0, ROWLOCK_DONE},
+    {10, 4096, 14, 17, ROWLOCK_DONE},
+    {14, INT64_MAX, 18, INT64_MIN, ROWLOCK_DONE},
+    {18, 999, 22, -1, ROWLOCK_DONE},
+    {26, INT64_MIN, 46, INT64_MAX, ROWLOCK_DONE},
+    {49, 7, 57, 7, ROWLOCK_DONE},
+    {49, 65536, 57, 256, ROWLOCK_DONE},
+    {54, INT64_MIN, 49, INT64_MAX, ROWLOCK_DONE},
     {0, 0, 1, 0, ROWLOCK_BAD_DEPTH},
+    {0, 5, 1, 9, ROWLOCK_BAD_DEPTH},
     {0, INT64_MAX, 2, INT64_MAX, ROWLOCK_BAD_DEPTH},
     {1, 9, 2, 7, ROWLOCK_BAD_COUNT},
     {2, -1, 3, 2, ROWLOCK_BAD_CUBE},
-    {3, 2, 9, 17, ROWLOCK_BAD_LIMITS},
-    {7, INT64_MIN, 9, 17, ROWLOCK_BAD_LIMITS},
-    {6, 1000, 7, 1000, ROWLOCK_TOO_MANY_POINTS},
-    {9, 17, 12, 17, ROWLOCK_BAD_TIME},
-    {12, -17, 44, 256, ROWLOCK_BAD_DEPENDENCE},
-    {15, 0, 44, 256, ROWLOCK_BACKWARD_DEPENDENCE},
-    {15, 0, 16, 1, ROWLOCK_EQUAL_DEPENDENCES},
-    {10, 0, 37, -1, ROWLOCK_AGAINST_TIME},
-    {9, 0, 10, 0, ROWLOCK_AGAINST_TIME},
-    {36, 65536, 51, 0, ROWLOCK_BAD_WEIGHT},
-    {37, 65536, 51, 0, ROWLOCK_BAD_WEIGHT},
-    {37, -1, 51, 0, ROWLOCK_BAD_WEIGHT},
-    {36, -1, 37, -1, ROWLOCK_BAD_WEIGHT},
-    {44, 256, 51, 0, ROWLOCK_BAD_WEIGHT},
-    {45, -1, 51, 0, ROWLOCK_BAD_WEIGHT},
+    {3, 2, 11, 17, ROWLOCK_BAD_LIMITS},
+    {8, INT64_MIN, 11, 17, ROWLOCK_BAD_LIMITS},
+    {0, 4, 10, 1001, ROWLOCK_BAD_LIMITS},
+    {0, 4, 6, 1, ROWLOCK_BAD_LIMITS},
+    {7, 1000, 8, 1000, ROWLOCK_TOO_MANY_POINTS},
+    {0, 4, 10, 682, ROWLOCK_TOO_MANY_POINTS},
+    {11, 17, 15, 17, ROWLOCK_BAD_TIME},
+    {0, 4, 14, -17, ROWLOCK_BAD_TIME},
+    {15, -17, 55, 256, ROWLOCK_BAD_DEPENDENCE},
+    {0, 4, 18, 17, ROWLOCK_BAD_DEPENDENCE},
+    {19, 0, 55, 256, ROWLOCK_BACKWARD_DEPENDENCE},
+    {19, 0, 20, 1, ROWLOCK_EQUAL_DEPENDENCES},
+    {12, 0, 48, -1, ROWLOCK_AGAINST_TIME},
+    {11, 0, 12, 0, ROWLOCK_AGAINST_TIME},
+    {47, 65536, 62, 0, ROWLOCK_BAD_WEIGHT},
+    {48, 65536, 62, 0, ROWLOCK_BAD_WEIGHT},
+    {48, -1, 62, 0, ROWLOCK_BAD_WEIGHT},
+    {47, -1, 48, -1, ROWLOCK_BAD_WEIGHT},
+    {55, 256, 62, 0, ROWLOCK_BAD_WEIGHT},
+    {56, -1, 62, 0, ROWLOCK_BAD_WEIGHT},
 };
 
 static struct rowlock_nest damaged(const struct damage *damage) {
-    int64_t numbers[52];
+    int64_t numbers[sizeof(struct rowlock_nest) / sizeof(int64_t)];
     struct rowlock_nest nest;
     memcpy(numbers, &whole, sizeof numbers);
     numbers[damage->place] = damage->number;
@@ -302,7 +347,10 @@ static void try_bounds(void) {
     } nests[] = {
         {{.depth = 2, .count = 1, .time = {1, 0}, .dependences = {1, 0}}, 2},
         {{.depth = 2, .count = 1, .time = {1, 1}, .dependences = {0, 1}}, 1},
-        {{.depth = 3, .count = 3, .time = {1, 1, 1}, .dependences = {0, 1, 0, 1, 0, 0, 0, 0, 1}},
+        {{.depth = 3,
+          .count = 3,
+          .time = {1, 1, 1},
+          .dependences = {0, 1, 0, 0, 1, 0, 0, 0, 0, 0, 1, 0}},
          4},
     };
     for (size_t k = 0; k < sizeof nests / sizeof nests[0]; k++) {
@@ -382,6 +430,49 @@ struct move {
     size_t made[2];
 };
 
+/* a run: a nest of so many iterations, the tables of its plan, and its state */
+struct run {
+    const struct rowlock_nest *nest;
+    size_t iterations;
+    const uint32_t *steps;
+    const uint8_t *processors;
+    uint16_t *values;
+    uint8_t *done, *delivered;
+};
+
+/* A run on a fresh state. */
+static struct run fresh(const struct rowlock_nest *nest, size_t n, const uint32_t *step_table,
+                        const uint8_t *processor_table) {
+    struct run run = {lend_copy(nest, sizeof *nest),
+                      n,
+                      lend_copy(step_table, n * sizeof *step_table),
+                      lend_copy(processor_table, n),
+                      lend(n * sizeof(uint16_t)),
+                      lend(n),
+                      lend(n)};
+    memset(run.done, 0, n);
+    memset(run.delivered, 0, n);
+    return run;
+}
+
+/* Makes a move; answers its number. */
+static uint8_t make(const struct run *run, size_t kind, size_t first, size_t second,
+                    size_t made[2]) {
+    size_t n = run->iterations;
+    return rowlock_move(run->nest, kind, first, second, run->steps, n, run->processors, n,
+                        run->values, n, run->done, n, run->delivered, n, made);
+}
+
+/* Makes so many moves, each of which must be answered as it is told. */
+static void make_all(const struct run *run, const struct move *moves, size_t count) {
+    for (size_t k = 0; k < count; k++) {
+        const struct move *m = &moves[k];
+        size_t *made = lend(sizeof m->made);
+        CHECK(make(run, m->kind, m->first, m->second, made) == m->answer);
+        CHECK(memcmp(made, m->made, sizeof m->made) == 0);
+    }
+}
+
 /* A run to its end, with moves that are refused on the way. */
 static void try_run(void) {
     static const struct move moves[] = {
@@ -410,21 +501,73 @@ static void try_run(void) {
         {1, 0, 0, ROWLOCK_DONE, {5, 276}},
         {1, 0, 0, ROWLOCK_IDLE_PROCESSOR, {0, 0}},
     };
-    static const uint8_t zeros[ITERATIONS], ones[ITERATIONS] = {1, 1, 1, 1, 1, 1},
-                                            bits[ITERATIONS] = {0, 0, 1, 0, 0, 2};
-    const uint32_t *a = lend_copy(steps, sizeof steps);
-    const uint8_t *b = lend_copy(processors, sizeof processors);
-    uint16_t *c = lend(sizeof values);
-    uint8_t *d = lend_copy(zeros, sizeof zeros), *e = lend_copy(zeros, sizeof zeros);
-    for (size_t k = 0; k < sizeof moves / sizeof moves[0]; k++) {
-        const struct move *m = &moves[k];
-        size_t *made = lend(sizeof m->made);
-        CHECK(rowlock_move(&whole, m->kind, m->first, m->second, a, ITERATIONS, b, ITERATIONS, c,
-                           ITERATIONS, d, ITERATIONS, e, ITERATIONS, made) == m->answer);
-        CHECK(memcmp(made, m->made, sizeof m->made) == 0);
+    static const uint8_t ones[ITERATIONS] = {1, 1, 1, 1, 1, 1},
+                         bits[ITERATIONS] = {0, 0, 1, 0, 0, 2};
+    struct run run = fresh(&whole, ITERATIONS, steps, processors);
+    make_all(&run, moves, sizeof moves / sizeof moves[0]);
+    CHECK(memcmp(run.values, values, sizeof values) == 0);
+    CHECK(memcmp(run.done, ones, sizeof ones) == 0);
+    CHECK(memcmp(run.delivered, bits, sizeof bits) == 0);
+}
+
+/* Four loops: text, bound, rows, values and plan, in tables of just enough entries and of one too
+ * few. Along (1,1,1,1) three of four unit vectors are chosen: 2 * 4 - 3 = 5. A row is half of the
+ * table. */
+static void try_four_loops(void) {
+    const struct rowlock_nest *nest = lend_copy(&four, sizeof four);
+    struct rowlock_nest *again = lend(sizeof *again);
+    CHECK(rowlock_read(lend_copy(four_text, strlen(four_text)), strlen(four_text), again) == 0);
+    CHECK(memcmp(again, &four, sizeof four) == 0);
+    try_write(nest, ROWLOCK_DONE, four_text);
+    size_t n = FOUR_ITERATIONS, *span = lend(2 * sizeof *span), *told = lend(sizeof four_counts);
+    for (int64_t index = -1; index <= 2; index++) {
+        uint8_t answer = index == 0 || index == 1 ? ROWLOCK_DONE : ROWLOCK_NO_SUCH_ROW;
+        CHECK(rowlock_locate(nest, n, index, span) == answer);
+        CHECK(span[0] == (index == 1 ? 8 : 0) && span[1] == (answer == ROWLOCK_DONE ? 8 : 0));
     }
-    CHECK(memcmp(c, values, sizeof values) == 0 && memcmp(d, ones, sizeof ones) == 0 &&
-          memcmp(e, bits, sizeof bits) == 0);
+    CHECK(rowlock_locate(nest, n - 1, 0, span) == ROWLOCK_SHORT_BUFFER);
+    CHECK(rowlock_most_receivers(nest, span) == ROWLOCK_DONE && span[0] == 5);
+    uint32_t *a = lend(sizeof four_steps);
+    uint16_t *b = lend(sizeof four_blocks), *d = lend(sizeof four_values);
+    uint8_t *c = lend(sizeof four_processors);
+    CHECK(rowlock_fill(nest, d, n - 1) == ROWLOCK_SHORT_BUFFER);
+    CHECK(rowlock_plan(nest, a, n, b, n, c, n - 1, d, n, told) == ROWLOCK_SHORT_BUFFER);
+    CHECK(holds(c, four_processors, 0, n) && holds(d, four_values, 0, sizeof four_values));
+    CHECK(rowlock_fill(nest, d, n) == ROWLOCK_DONE && holds(d, four_values, sizeof four_values, 0));
+    CHECK(rowlock_plan(nest, a, n, b, n, c, n, d, n, told) == ROWLOCK_DONE);
+    CHECK(holds(a, four_steps, sizeof four_steps, 0) &&
+          holds(b, four_blocks, sizeof four_blocks, 0));
+    CHECK(holds(c, four_processors, sizeof four_processors, 0));
+    CHECK(holds(d, four_values, sizeof four_values, 0));
+    CHECK(memcmp(told, four_counts, sizeof four_counts) == 0);
+    give_back();
+}
+
+/* A run of four loops: some moves one by one, then all until none is allowed. Rank 8 needs rank 0
+ * along the fourth dependence, rank 2 along the second, each from another processor. */
+static void try_four_run(void) {
+    static const struct move moves[] = {
+        {1, 0, 0, ROWLOCK_WAITING, {0, 0}},       {1, 1, 0, ROWLOCK_IDLE_PROCESSOR, {0, 0}},
+        {1, 4, 0, ROWLOCK_NO_SUCH_PLACE, {0, 0}}, {2, 8, 3, ROWLOCK_OUT_OF_TURN, {0, 0}},
+        {1, 2, 0, ROWLOCK_DONE, {0, 4}},          {2, 8, 3, ROWLOCK_DONE, {8, 3}},
+        {2, 8, 4, ROWLOCK_NO_SUCH_PLACE, {0, 0}}, {2, 16, 0, ROWLOCK_NO_SUCH_PLACE, {0, 0}},
+        {2, 4, 2, ROWLOCK_OUT_OF_TURN, {0, 0}},   {1, 0, 0, ROWLOCK_DONE, {8, 15}},
+        {1, 3, 0, ROWLOCK_WAITING, {0, 0}},       {2, 2, 1, ROWLOCK_DONE, {2, 1}},
+        {1, 3, 0, ROWLOCK_DONE, {2, 9}},
+    };
+    struct run run = fresh(&four, FOUR_ITERATIONS, four_steps, four_processors);
+    make_all(&run, moves, sizeof moves / sizeof moves[0]);
+    size_t computed = 3, delivered = 2, before, *made = lend(2 * sizeof *made);
+    do {
+        before = computed + delivered;
+        for (size_t k = 0; k < 4; k++)
+            computed += make(&run, ROWLOCK_COMPUTE, k, 0, made) == ROWLOCK_DONE;
+        for (size_t k = 0; k < 4 * FOUR_ITERATIONS; k++)
+            delivered += make(&run, ROWLOCK_DELIVER, k / 4, k % 4, made) == ROWLOCK_DONE;
+    } while (before < computed + delivered);
+    CHECK(computed == FOUR_ITERATIONS && delivered == four_counts[4]);
+    CHECK(memcmp(run.values, four_values, sizeof four_values) == 0);
+    give_back();
 }
 
 int main(void) {
@@ -445,6 +588,8 @@ int main(void) {
         try_list(sizeof text - 2, sizeof listing);
         try_run();
         give_back();
+        try_four_loops();
+        try_four_run();
     }
     return failures != 0;
 }

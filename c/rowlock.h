@@ -25,18 +25,18 @@
 extern "C" {
 #endif
 
-#define ROWLOCK_MAX_DEPTH 3
+#define ROWLOCK_MAX_DEPTH 4
 #define ROWLOCK_MAX_DEPENDENCES 8
 #define ROWLOCK_MAX_ITERATIONS 4096
 /* the bytes of the longest text of a nest, and of the longest listing: enough for every
  * rowlock_write and rowlock_list */
-#define ROWLOCK_MAX_TEXT 326
+#define ROWLOCK_MAX_TEXT 393
 #define ROWLOCK_MAX_LISTING 127007
 
-/* A loop nest: 52 numbers, any of which may be anything. Of each array the first `depth` or `count`
+/* A loop nest: 63 numbers, any of which may be anything. Of each array the first `depth` or `count`
  * places are a part of the nest; the others are ignored. */
 struct rowlock_nest {
-    /* number of loops, 1 to 3 */
+    /* number of loops, 1 to 4 */
     int64_t depth;
     /* number of dependences, 1 to 8 */
     int64_t count;
@@ -57,7 +57,7 @@ struct rowlock_nest {
 
 /* does not compile where the struct has padding */
 typedef char
-    rowlock_nest_is_52_numbers[sizeof(struct rowlock_nest) == 52 * sizeof(int64_t) ? 1 : -1];
+    rowlock_nest_is_63_numbers[sizeof(struct rowlock_nest) == 63 * sizeof(int64_t) ? 1 : -1];
 
 /* what a function returns; README.md says when each refusal is met */
 enum rowlock_refusal {

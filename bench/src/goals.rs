@@ -2,7 +2,7 @@
 //! same run.
 
 /// What is timed, on which nest, and the greatest ratio that is accepted.
-const GOALS: [(&str, &str, f64); 11] = [
+const GOALS: [(&str, &str, f64); 14] = [
     ("fill", "L1, 64 x 64", 0.9),
     ("fill", "L2, 16 x 16 x 16", 0.9),
     ("fill", "512 x 8 x 1", 1.2),
@@ -12,6 +12,9 @@ const GOALS: [(&str, &str, f64); 11] = [
     ("plan", "L2, 16 x 16 x 16", 1.0),
     ("plan", "L2, 8 dependences", 1.0),
     ("plan", "512 x 8 x 1", 1.2),
+    ("fill", "four loops, 8 x 8 x 8 x 8", 0.9),
+    ("plan", "four loops, 8 x 8 x 8 x 8", 1.0),
+    ("plan", "four loops, 8 dependences", 1.0),
     ("run", "L1, 64 x 64", 1.3),
     ("delivery", "L1, 64 x 64", 2.0),
 ];

@@ -4,11 +4,11 @@
 use crate::nest::{Answer, Move, Nest, State, Tables};
 use crate::plain::{check, dot, Loops, Vector};
 
-/// A nest that passed its checks.
-pub struct Machine {
+/// A nest that passed its checks, with N loops.
+pub struct Machine<const N: usize> {
     iterations: usize,
     processors: usize,
-    loops: Loops,
+    loops: Loops<N>,
     boundaries: [u32; 8],
     weights: [u32; 8],
 }
@@ -17,9 +17,9 @@ fn refused(number: u8) -> Answer {
     Answer { number, made: [0; 2] }
 }
 
-impl Machine {
+impl<const N: usize> Machine<N> {
     /// The machine of an accepted nest, or the number of its refusal.
-    pub fn new(nest: &Nest) -> Result<Machine, u8> {
+    pub fn new(nest: &Nest) -> Result<Machine<N>, u8> {
         let iterations = check(nest)?;
         Ok(Machine {
             iterations,
@@ -117,7 +117,7 @@ impl Machine {
     }
 
     /// The rank of an iteration's source along a dependence, if it is an iteration.
-    pub fn source(&self, rank: usize, j: Vector, d: Vector) -> Option<usize> {
+    pub fn source(&self, rank: usize, j: Vector<N>, d: Vector<N>) -> Option<usize> {
         self.loops.source(rank, j, d, dot(d, self.loops.stride))
     }
 

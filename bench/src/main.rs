@@ -1,6 +1,8 @@
 //! Times the proved planner beside a plain one, in one run, on nests on which both give the same
 //! tables. `check` ends with status 1 where a goal is missed.
 
+#[cfg(test)]
+mod beside_second;
 mod goals;
 mod machine;
 mod nest;
@@ -40,6 +42,28 @@ fn l2_with_eight(extents: &[i64; 3]) -> Nest {
     nest::with_extents(extents, &[1, 1, 1], &units, 6)
 }
 
+/// Four loops as L2's three: a dependence of one step in each, by which two auxiliary vectors are
+/// chosen.
+fn four_loops(extents: &[i64; 4]) -> Nest {
+    let units: [&[i64]; 4] = [&[0, 1, 0, 0], &[1, 0, 0, 0], &[0, 0, 1, 0], &[0, 0, 0, 1]];
+    nest::with_extents(extents, &[1, 1, 1, 1], &units, 6)
+}
+
+/// The same with eight dependences.
+fn four_loops_with_eight(extents: &[i64; 4]) -> Nest {
+    let dependences: [&[i64]; 8] = [
+        &[0, 1, 0, 0],
+        &[1, 0, 0, 0],
+        &[0, 0, 1, 0],
+        &[0, 0, 0, 1],
+        &[1, 1, 0, 0],
+        &[0, 0, 1, 1],
+        &[1, 1, 1, 1],
+        &[1, 1, 1, -1],
+    ];
+    nest::with_extents(extents, &[1, 1, 1, 1], &dependences, 6)
+}
+
 /// A nest whose chosen projections span a coarse lattice, so that few iterations share a class: at
 /// 16 x 16 x 16 it has 4035 classes.
 fn many_classes(extents: &[i64; 3]) -> Nest {
@@ -67,8 +91,8 @@ impl Random {
 /// A nest that is often accepted, with a boundary value for each dependence. (Those that are timed
 /// have one for all, as before document 02's U1.)
 fn random_nest(random: &mut Random) -> Nest {
-    let depth = random.between(1, 3) as usize;
-    let longest = [0, 500, 40, 12][depth];
+    let depth = random.between(1, Nest::MAX_DEPTH as i64) as usize;
+    let longest = [500, 40, 12, 7][depth - 1];
     let extents: Vec<i64> = (0..depth).map(|_| random.between(1, longest)).collect();
     let span = [1, 2, 4, 16][random.between(0, 3) as usize];
     let time: Vec<i64> = (0..depth).map(|_| random.between(-span, span)).collect();
@@ -177,6 +201,8 @@ fn nests(scale: usize) -> Vec<(&'static str, Nest, usize)> {
         ("L2, 4 x 8 x 8", l2(&[4, 8, 8]), 200 * scale),
         ("4035 classes, 16 x 16 x 16", many_classes(&[16, 16, 16]), 2 * scale),
         ("4 x 1000, P·j 16 apart", far_apart(), 40 * scale),
+        ("four loops, 8 x 8 x 8 x 8", four_loops(&[8, 8, 8, 8]), 40 * scale),
+        ("four loops, 8 dependences", four_loops_with_eight(&[8, 8, 8, 8]), 20 * scale),
     ]
 }
 
@@ -221,6 +247,10 @@ fn report_sizes(scale: usize) {
             "many classes",
             [many_classes(&[4, 8, 8]), many_classes(&[8, 8, 16]), many_classes(&[16, 16, 16])],
         ),
+        (
+            "four loops",
+            [four_loops(&[4, 4, 4, 4]), four_loops(&[4, 4, 8, 8]), four_loops(&[8, 8, 8, 8])],
+        ),
     ];
     for (name, nests) in &sizes {
         for nest in nests {
@@ -259,6 +289,18 @@ fn report_bounds(scale: usize) {
     }
 }
 
+/// The nests that are run move by move.
+const RUN: [&str; 3] = ["L1, 64 x 64", "four loops, 8 x 8 x 8 x 8", "four loops, 8 dependences"];
+
+/// The times of complete runs beside the plain machine's.
+fn report_runs(scale: usize, reached: &mut Reached) {
+    let nests = nests(scale);
+    for name in RUN {
+        let (_, nest, _) = nests.iter().find(|nest| nest.0 == name).expect("a nest that is timed");
+        runs::report(name, nest, 2 * scale, reached);
+    }
+}
+
 fn main() {
     let word = std::env::args().nth(1);
     let scale = if word.as_deref() == Some("quick") { 1 } else { 10 };
@@ -268,7 +310,7 @@ fn main() {
     report_nests(scale, &mut reached);
     report_sizes(scale);
     report_bounds(scale);
-    runs::report("L1, 64 x 64", &l1(64), 2 * scale, &mut reached);
+    report_runs(scale, &mut reached);
     let missed = reached.report();
     if word.as_deref() == Some("check") && missed > 0 {
         std::process::exit(1);

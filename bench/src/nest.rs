@@ -17,7 +17,7 @@ pub fn with_extents(extents: &[i64], time: &[i64], dependences: &[&[i64]], cube:
         nest.time[k] = time[k];
     }
     for (i, dependence) in dependences.iter().enumerate() {
-        nest.dependences[i * 3..i * 3 + dependence.len()].copy_from_slice(dependence);
+        nest.dependences[i * Nest::MAX_DEPTH..][..dependence.len()].copy_from_slice(dependence);
     }
     nest
 }

@@ -6,6 +6,7 @@ use std::time::Instant;
 use crate::goals::Reached;
 use crate::machine::Machine;
 use crate::nest::{Answer, Move, Nest, State, Tables};
+use crate::plain::{is_deepest, DEEPEST, OTHERS};
 use crate::proved;
 
 /// A list of moves in stretches of one kind, computes and deliveries in turn.
@@ -17,7 +18,11 @@ pub struct Schedule {
 
 /// A complete run, round by round: a compute on every processor in order, then all messages of what
 /// the round computed, until a round computes nothing.
-pub fn round_robin(machine: &Machine, tables: &Tables, processors: usize) -> Schedule {
+pub fn round_robin<const N: usize>(
+    machine: &Machine<N>,
+    tables: &Tables,
+    processors: usize,
+) -> Schedule {
     let mut state = State::fresh(tables.counts[0]);
     let mut schedule = Schedule { stretches: Vec::new(), counts: [0; 3] };
     loop {
@@ -51,6 +56,11 @@ pub fn round_robin(machine: &Machine, tables: &Tables, processors: usize) -> Sch
 }
 
 impl Schedule {
+    /// All moves in order.
+    pub fn moves(&self) -> impl Iterator<Item = &Move> {
+        self.stretches.iter().flatten()
+    }
+
     /// Makes all moves from a fresh state; answers the nanoseconds of the computes and of the
     /// deliveries.
     fn time(
@@ -72,10 +82,10 @@ impl Schedule {
 
     /// Stops unless the proved entry and the plain machine answer every move alike and end in the
     /// table of the sequential loop.
-    fn compare(&self, nest: &Nest, machine: &Machine, tables: &Tables) {
+    fn compare<const N: usize>(&self, nest: &Nest, machine: &Machine<N>, tables: &Tables) {
         let [iterations, _, _, _, messages] = tables.counts;
         let [mut ours, mut theirs] = [State::fresh(iterations), State::fresh(iterations)];
-        for request in self.stretches.iter().flatten() {
+        for request in self.moves() {
             let answer = proved::make_move(nest, *request, tables, &mut ours);
             assert_eq!(answer, machine.make_move(*request, tables, &mut theirs), "{request:?}");
             assert!(ours == theirs, "the states differ after {request:?}");
@@ -105,7 +115,15 @@ fn refused_time(tables: &Tables, mut make_move: impl FnMut(Move, &mut State) -> 
 struct Times([f64; 4]);
 
 impl Times {
-    fn least(self, computes: f64, deliveries: f64, refused: f64, schedule: &Schedule) -> Times {
+    /// These times or those of one more run, whichever are less.
+    fn least(
+        self,
+        schedule: &Schedule,
+        tables: &Tables,
+        mut make_move: impl FnMut(Move, &mut State) -> Answer,
+    ) -> Times {
+        let [computes, deliveries] = schedule.time(tables.counts[0], &mut make_move);
+        let refused = refused_time(tables, make_move);
         let [allowed, waiting, delivered] = schedule.counts.map(|count| count as f64);
         let now = [
             computes + deliveries,
@@ -124,29 +142,30 @@ impl Times {
 pub fn report(name: &str, nest: &Nest, rounds: usize, reached: &mut Reached) {
     let mut tables = Tables::new([4096; 4]);
     assert_eq!(proved::plan(nest, &mut tables), 0, "{name} is accepted");
-    let machine = Machine::new(nest).expect("an accepted nest");
-    let iterations = tables.counts[0];
-    let schedule = round_robin(&machine, &tables, 1 << nest.cube);
-    schedule.compare(nest, &machine, &tables);
-
-    let [mut ours, mut theirs] = [Times([f64::INFINITY; 4]), Times([f64::INFINITY; 4])];
-    for _ in 0..rounds {
-        let times = schedule
-            .time(iterations, |request, state| proved::make_move(nest, request, &tables, state));
-        let refused = refused_time(&tables, |request, state| {
-            proved::make_move(nest, request, &tables, state)
-        });
-        ours = ours.least(times[0], times[1], refused, &schedule);
-        let times =
-            schedule.time(iterations, |request, state| machine.make_move(request, &tables, state));
-        let refused =
-            refused_time(&tables, |request, state| machine.make_move(request, &tables, state));
-        theirs = theirs.least(times[0], times[1], refused, &schedule);
-    }
     println!("\na complete run of {name} on {} processors by moves", tables.counts[3]);
-    print(&schedule, &ours, &theirs);
+    let [ours, theirs] = match is_deepest(nest) {
+        true => timed::<DEEPEST>(nest, &tables, rounds),
+        false => timed::<OTHERS>(nest, &tables, rounds),
+    };
     reached.add("run", name, ours.0[0] / theirs.0[0]);
     reached.add("delivery", name, ours.0[2] / theirs.0[2]);
+}
+
+/// Prints the times of the proved entry and of the plain machine for N loops, and answers them.
+fn timed<const N: usize>(nest: &Nest, tables: &Tables, rounds: usize) -> [Times; 2] {
+    let machine: Machine<N> = Machine::new(nest).expect("an accepted nest");
+    let schedule = round_robin(&machine, tables, 1 << nest.cube);
+    schedule.compare(nest, &machine, tables);
+    let [mut ours, mut theirs] = [Times([f64::INFINITY; 4]), Times([f64::INFINITY; 4])];
+    for _ in 0..rounds {
+        ours = ours.least(&schedule, tables, |request, state| {
+            proved::make_move(nest, request, tables, state)
+        });
+        theirs = theirs
+            .least(&schedule, tables, |request, state| machine.make_move(request, tables, state));
+    }
+    print(&schedule, &ours, &theirs);
+    [ours, theirs]
 }
 
 fn print(schedule: &Schedule, ours: &Times, theirs: &Times) {

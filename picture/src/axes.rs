@@ -1,6 +1,7 @@
-//! The indices beside the rows and above the columns of each layer, and the layers' titles.
+//! The indices beside the rows and above the columns of each layer, and the titles of layers and of
+//! bands.
 
-use crate::grid::{Grid, Point};
+use crate::grid::{Grid, Point, BAND_TITLE};
 use crate::plan::Plan;
 use crate::svg::Element;
 
@@ -17,7 +18,7 @@ const ABOVE: f64 = 6.0;
 const TITLE: f64 = 22.0;
 
 pub fn drawn(plan: &Plan, grid: &Grid) -> Element {
-    let layers = (0..grid.extents[0]).flat_map(|layer| layer_axes(plan, grid, layer));
+    let layers = (0..grid.layers()).flat_map(|layer| layer_axes(plan, grid, layer));
     Element::group("axes")
         .with("font-size", 12)
         .with("fill", "#444444")
@@ -25,7 +26,8 @@ pub fn drawn(plan: &Plan, grid: &Grid) -> Element {
         .holding(layers)
 }
 
-/// The indices and the title of one layer. The indices' names stand at the first layer of a band.
+/// The indices and the title of one layer. The indices' names stand at the first layer of a band,
+/// and an outermost index that has bands stands at its first layer in each.
 fn layer_axes(plan: &Plan, grid: &Grid, layer: usize) -> Vec<Element> {
     let depth = plan.nest.depth;
     let corner = grid.corner(layer);
@@ -42,7 +44,12 @@ fn layer_axes(plan: &Plan, grid: &Grid, layer: usize) -> Vec<Element> {
         axes.push(axis_name(names, above + INDEX_HEIGHT, &format!("i{} ↓", depth - 1)));
     }
     if grid.layered {
-        axes.push(layer_title(grid, corner, above, grid.lower[0] + layer as i64));
+        let said = format!("i{} = {}", depth - 2, grid.layer_index(layer));
+        axes.push(layer_title(grid, corner, above, &said));
+    }
+    if grid.starts_index(layer) {
+        let said = format!("i{} = {}", depth - 3, grid.band_index(layer));
+        axes.push(band_title(corner, above, &said));
     }
     axes
 }
@@ -50,29 +57,37 @@ fn layer_axes(plan: &Plan, grid: &Grid, layer: usize) -> Vec<Element> {
 fn column_indices(grid: &Grid, corner: Point, above: f64) -> Vec<Element> {
     let index = |column: usize| {
         let x = corner.x + grid.across * (column as f64 + 0.5);
-        Element::label(x, above, &format!("{}", grid.lower[2] + column as i64))
+        Element::label(x, above, &format!("{}", grid.lower[3] + column as i64))
     };
-    (0..grid.extents[2]).step_by(stride(INDEX_WIDTH / grid.across)).map(index).collect()
+    (0..grid.extents[3]).step_by(stride(INDEX_WIDTH / grid.across)).map(index).collect()
 }
 
 fn row_indices(grid: &Grid, corner: Point) -> Vec<Element> {
     let index = |row: usize| {
         let y = corner.y + grid.down * (row as f64 + 0.5) + 4.0;
-        Element::label(corner.x - LEFT, y, &format!("{}", grid.lower[1] + row as i64))
+        Element::label(corner.x - LEFT, y, &format!("{}", grid.lower[2] + row as i64))
             .with("text-anchor", "end")
     };
-    (0..grid.extents[1]).step_by(stride(INDEX_HEIGHT / grid.down)).map(index).collect()
+    (0..grid.extents[2]).step_by(stride(INDEX_HEIGHT / grid.down)).map(index).collect()
 }
 
 fn axis_name(x: f64, y: f64, name: &str) -> Element {
     Element::label(x, y, name).with("text-anchor", "end").with("font-style", "italic")
 }
 
-fn layer_title(grid: &Grid, corner: Point, above: f64, index: i64) -> Element {
-    let middle = corner.x + grid.across * grid.extents[2] as f64 / 2.0;
-    Element::label(middle, above - TITLE, &format!("i1 = {index}"))
-        .with("font-size", 14)
-        .with("font-weight", "bold")
+fn layer_title(grid: &Grid, corner: Point, above: f64, said: &str) -> Element {
+    let middle = corner.x + grid.across * grid.extents[3] as f64 / 2.0;
+    title(middle, above - TITLE, said, 14)
+}
+
+/// A band's title, which begins where its first layer's indices do.
+fn band_title(corner: Point, above: f64, said: &str) -> Element {
+    title(corner.x - LEFT_OF_SMALL, above - TITLE - BAND_TITLE, said, 16)
+        .with("text-anchor", "start")
+}
+
+fn title(x: f64, y: f64, said: &str, size: u32) -> Element {
+    Element::label(x, y, said).with("font-size", size).with("font-weight", "bold")
 }
 
 /// The least of 1, 2, 5, 10, 20, 50 .. that is at least as great: every so many indices are

@@ -8,7 +8,7 @@
 //! | `colours.rs` | a colour for each block |
 //! | `squares.rs` | an iteration's square and the labels in it |
 //! | `routes.rs`, `lines.rs` | how a line runs; arrows and faint lines |
-//! | `axes.rs`, `legend.rs` | the indices of rows, columns and layers; the list of blocks |
+//! | `axes.rs`, `legend.rs` | the indices of rows, columns, layers and bands; the list of blocks |
 //! | `panel.rs` | the picture of one plan |
 //! | `page.rs` | the whole picture: the key and the plans, one below the other |
 //! | `words.rs`, `svg.rs` | numbers in words; elements of an SVG text |

@@ -26,11 +26,12 @@ impl Route {
             return bow(grid, from, to, common_divisor(rows, columns) > 1);
         }
         if grid.band(one.layer) != grid.band(other.layer) {
-            return detour(grid, from, to, grid.lanes(one.layer), grid.lanes(other.layer));
+            let lanes = [grid.lanes(one.layer), grid.lanes(other.layer)];
+            return detour(grid, from, to, lanes, aside(grid, one.row));
         }
         if from.y == to.y {
             // Arches of one row rise to different heights, so that they can be told apart.
-            let share = one.column as f64 / grid.extents[2] as f64;
+            let share = one.column as f64 / grid.extents[3] as f64;
             return arch(grid, from, to, share);
         }
         sweep(grid, from, to)
@@ -121,21 +122,33 @@ fn sweep(grid: &Grid, from: Point, to: Point) -> Route {
     Route { from, bends, to }
 }
 
+/// How far from the middle of its lanes the line from a row runs. Where there is a fourth loop many
+/// lines lead from band to band, and those of different rows can be told apart.
+fn aside(grid: &Grid, row: usize) -> f64 {
+    let share = (row as f64 + 0.5) / grid.extents[2] as f64 - 0.5;
+    if grid.banded {
+        share * 0.75 * (grid.across - grid.side)
+    } else {
+        0.0
+    }
+}
+
 /// A line from a square down to one in a later band: between the columns to the lane below its layer,
 /// along that to the lane on the right of the target's layer, and from there over the target's row.
-fn detour(grid: &Grid, from: Point, to: Point, source_lanes: Point, target_lanes: Point) -> Route {
+fn detour(grid: &Grid, from: Point, to: Point, lanes: [Point; 2], aside: f64) -> Route {
     let edge = grid.side / 2.0 + clearance(grid);
     let beside = grid.side / 4.0;
     let (below, above) = (from.y + grid.down / 2.0, to.y - grid.down / 2.0);
     let start = Point { x: from.x + beside, y: from.y + edge };
     let end = Point { x: to.x + beside, y: to.y - edge };
-    let between_columns = from.x + grid.across / 2.0;
+    let between_columns = from.x + grid.across / 2.0 - aside;
+    let [below_source, right_of_target] = [lanes[0].y + aside, lanes[1].x - aside];
     let bends = vec![
         Point { x: start.x, y: below },
         Point { x: between_columns, y: below },
-        Point { x: between_columns, y: source_lanes.y },
-        Point { x: target_lanes.x, y: source_lanes.y },
-        Point { x: target_lanes.x, y: above },
+        Point { x: between_columns, y: below_source },
+        Point { x: right_of_target, y: below_source },
+        Point { x: right_of_target, y: above },
         Point { x: end.x, y: above },
     ];
     Route { from: start, bends, to: end }

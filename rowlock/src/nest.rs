@@ -1,12 +1,12 @@
 //! A loop nest as numbers.
 
-/// A loop nest: 52 numbers, any of which may be anything. Of each array the first `depth` or
+/// A loop nest: 63 numbers, any of which may be anything. Of each array the first `depth` or
 /// `count` places are a part of the nest; the others are ignored. `c/rowlock.h` has the same
 /// struct.
 #[repr(C)]
 #[derive(Clone, Copy, Debug, Default, PartialEq, Eq, Hash)]
 pub struct Nest {
-    /// The number of loops, 1 to 3.
+    /// The number of loops, 1 to 4.
     pub depth: i64,
     /// The number of dependences, 1 to 8.
     pub count: i64,
@@ -18,7 +18,7 @@ pub struct Nest {
     pub upper: [i64; Nest::MAX_DEPTH],
     /// The time vector, -16 to 16.
     pub time: [i64; Nest::MAX_DEPTH],
-    /// Component k of dependence i is at place i * 3 + k, -16 to 16.
+    /// Component k of dependence i is at place i * 4 + k, -16 to 16.
     pub dependences: [i64; Nest::MAX_DEPTH * Nest::MAX_DEPENDENCES],
     /// What a source outside the nest reads as, by the dependence it was reached by, 0 to 65535.
     pub boundaries: [i64; Nest::MAX_DEPENDENCES],
@@ -27,13 +27,13 @@ pub struct Nest {
 }
 
 /// How many numbers a nest has.
-const NUMBERS: usize = 52;
+const NUMBERS: usize = 63;
 
 /// The library reads a nest as so many numbers of 64 bits without a gap.
 const _: () = assert!(size_of::<Nest>() == NUMBERS * size_of::<i64>());
 
 impl Nest {
-    pub const MAX_DEPTH: usize = 3;
+    pub const MAX_DEPTH: usize = 4;
     pub const MAX_DEPENDENCES: usize = 8;
 }
 
@@ -45,11 +45,11 @@ impl From<[i64; NUMBERS]> for Nest {
             count: numbers[1],
             cube: numbers[2],
             lower: part(&numbers, 3),
-            upper: part(&numbers, 6),
-            time: part(&numbers, 9),
-            dependences: part(&numbers, 12),
-            boundaries: part(&numbers, 36),
-            weights: part(&numbers, 44),
+            upper: part(&numbers, 7),
+            time: part(&numbers, 11),
+            dependences: part(&numbers, 15),
+            boundaries: part(&numbers, 47),
+            weights: part(&numbers, 55),
         }
     }
 }

@@ -24,7 +24,7 @@ macro_rules! refusals {
 
 refusals! {
     1 MALFORMED_TEXT "a line is missing, extra or not in columns"
-    2 BAD_DEPTH "depth not from 1 to 3"
+    2 BAD_DEPTH "depth not from 1 to 4"
     3 BAD_COUNT "number of dependences not from 1 to 8"
     4 BAD_CUBE "cube dimension not from 0 to 6"
     5 BAD_LIMITS "a limit not from -1000 to 1000, or lower above upper"

@@ -111,6 +111,8 @@ mod tests {
         assert_eq!(rank(&vectors(&[&[0, 0]])), 0);
         assert_eq!(rank(&vectors(&[&[1, 2], &[2, 4]])), 1);
         assert_eq!(rank(&vectors(&[&[2, -1, -1], &[-1, 2, -1], &[-1, -1, 2]])), 2);
+        assert_eq!(rank(&vectors(&[&[1, 0, 0, 2], &[0, 1, 0, 3], &[2, -1, 0, 1]])), 2);
+        assert_eq!(rank(&vectors(&[&[1, 0, 0, 2], &[0, 1, 0, 3], &[2, -1, 0, 2]])), 3);
         assert!(are_independent(&vectors(&[&[0, 1, 0], &[1, 0, 0]])));
         assert!(!are_independent(&vectors(&[&[0, 0, 0]])));
     }
@@ -122,6 +124,16 @@ mod tests {
         let expected = vec![Rational::whole(3), Rational::new(1, 2)];
         assert_eq!(coefficients(&chosen, &target), Some(expected));
         assert_eq!(coefficients(&chosen, &rational_vector(&[0, 0, 1])), None);
+    }
+
+    /// 2 (1,0,0,1) - 3 (0,1,0,1) + (0,0,1,1) = (2,-3,1,0), and with any other last component it is
+    /// none of theirs.
+    #[test]
+    fn coefficients_of_three_vectors() {
+        let chosen = vectors(&[&[1, 0, 0, 1], &[0, 1, 0, 1], &[0, 0, 1, 1]]);
+        let reached = coefficients(&chosen, &rational_vector(&[2, -3, 1, 0]));
+        assert_eq!(reached, Some([2, -3, 1].map(Rational::whole).to_vec()));
+        assert_eq!(coefficients(&chosen, &rational_vector(&[2, -3, 1, 1])), None);
     }
 
     #[test]

@@ -6,6 +6,8 @@ use crate::partition::{Group, Partition};
 
 #[derive(Clone, Debug)]
 pub struct Mapping {
+    /// The width of each direction.
+    pub widths: Vec<i64>,
     /// The bits that each direction was dealt.
     pub bits: Vec<u32>,
     /// The processor of each block.
@@ -19,16 +21,26 @@ pub struct Mapping {
 impl Mapping {
     /// The mapping of an accepted nest.
     pub fn new(nest: &LoopNest, iterations: &Iterations, partition: &Partition) -> Mapping {
-        let directions = directions(&partition.block_groups);
+        Mapping::along(nest, iterations, partition, &directions(&partition.block_groups))
+    }
+
+    /// The mapping along any directions, each the list of its values, block by block; tests make
+    /// wrong mappings by it.
+    pub fn along(
+        nest: &LoopNest,
+        iterations: &Iterations,
+        partition: &Partition,
+        directions: &[Vec<i64>],
+    ) -> Mapping {
         let widths: Vec<i64> = directions.iter().map(|values| width(values)).collect();
         let bits = deal_bits(&widths, nest.cube_dimension);
         let block_processors: Vec<usize> = (0..partition.block_count())
-            .map(|block| processor_of_block(block, &directions, &bits))
+            .map(|block| processor_of_block(block, directions, &bits))
             .collect();
         let processors: Vec<usize> =
             partition.blocks.iter().map(|&block| block_processors[block]).collect();
         let messages = messages(nest, iterations, &processors);
-        Mapping { bits, block_processors, processors, messages }
+        Mapping { widths, bits, block_processors, processors, messages }
     }
 
     /// The number of processors with at least one iteration.
@@ -40,9 +52,9 @@ impl Mapping {
     }
 }
 
-/// The directions, first to last: q, then b (one for each auxiliary vector), then the class. Each
-/// is the list of its values, block by block.
-fn directions(block_groups: &[Group]) -> Vec<Vec<i64>> {
+/// The directions, first to last: q, then the b of each auxiliary vector, the first chosen first,
+/// then the class (document 02, U11). Each is the list of its values, block by block.
+pub fn directions(block_groups: &[Group]) -> Vec<Vec<i64>> {
     let auxiliary_count = block_groups[0].b.len();
     let mut directions = vec![block_groups.iter().map(|group| group.q).collect()];
     for place in 0..auxiliary_count {
@@ -140,6 +152,11 @@ mod tests {
         assert_eq!(deal_bits(&[64, 1, 1], 6), vec![6, 0, 0]);
         assert_eq!(deal_bits(&[63, 1, 1], 6), vec![5, 0, 0]);
         assert_eq!(deal_bits(&[64, 2, 2, 2], 6), vec![3, 1, 1, 1]);
+        assert_eq!(deal_bits(&[8, 8, 8, 8], 3), vec![1, 1, 1, 0]);
+        assert_eq!(deal_bits(&[8, 8, 8, 8], 6), vec![2, 2, 1, 1]);
+        assert_eq!(deal_bits(&[8, 1, 8, 8], 6), vec![2, 0, 2, 2]);
+        assert_eq!(deal_bits(&[8, 8, 1, 8], 5), vec![2, 2, 0, 1]);
+        assert_eq!(deal_bits(&[1, 2, 3, 64], 6), vec![0, 1, 1, 4]);
     }
 
     #[test]

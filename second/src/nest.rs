@@ -48,8 +48,8 @@ fn is_backward(dependence: &[i64]) -> bool {
 }
 
 impl LoopNest {
-    /// Spans of the table in document 01, "The sheet".
-    pub const DEPTHS: RangeInclusive<i64> = 1..=3;
+    /// Spans of the table in document 01, "The sheet"; that of the depth is document 02's, U11.
+    pub const DEPTHS: RangeInclusive<i64> = 1..=4;
     pub const DEPENDENCE_COUNTS: RangeInclusive<i64> = 1..=8;
     pub const CUBE_DIMENSIONS: RangeInclusive<i64> = 0..=6;
     pub const LIMITS: RangeInclusive<i64> = -1000..=1000;
@@ -234,6 +234,8 @@ mod tests {
     fn loop_order_has_the_outermost_index_slowest() {
         let points = points_in_loop_order(&[-1, 0], &[0, 1]);
         assert_eq!(points, vec![vec![-1, 0], vec![-1, 1], vec![0, 0], vec![0, 1]]);
+        let points = points_in_loop_order(&[5, 0, 7, -1], &[5, 1, 7, 0]);
+        assert_eq!(points, [[5, 0, 7, -1], [5, 0, 7, 0], [5, 1, 7, -1], [5, 1, 7, 0]]);
     }
 
     #[test]

@@ -10,7 +10,7 @@ use crate::nest::{inner_product, Iterations, LoopNest};
 use crate::rational::Rational;
 
 /// A group of projected points, named by its class and its coordinates within the class: q along
-/// the grouping vector, b along each auxiliary vector.
+/// the grouping vector, and along each auxiliary vector its own b, in the order of their choice.
 #[derive(Clone, Debug, PartialEq, Eq, Hash)]
 pub struct Group {
     pub class: usize,
@@ -30,7 +30,7 @@ pub struct Partition {
     pub group_size: i64,
     /// The number of the dependence that is the grouping vector, if there is one.
     pub grouping: Option<usize>,
-    /// The numbers of the dependences that are auxiliary vectors.
+    /// The numbers of the dependences that are auxiliary vectors: of n loops n - 2 at most.
     pub auxiliary: Vec<usize>,
     /// The projected points, each once, by first iteration.
     pub projected_points: Vec<Vector>,
@@ -46,16 +46,26 @@ pub struct Partition {
     pub block_groups: Vec<Group>,
 }
 
+/// How auxiliary vectors are chosen: their numbers, by the projected dependences and the number of
+/// the grouping vector.
+pub type Choice = fn(&[Vector], Option<usize>) -> Vec<usize>;
+
 impl Partition {
     /// The partition of an accepted nest.
     pub fn new(nest: &LoopNest, iterations: &Iterations) -> Partition {
+        Partition::choosing(nest, iterations, auxiliary_vectors)
+    }
+
+    /// The partition with auxiliary vectors that are chosen in any way, as long as all chosen
+    /// vectors are independent; tests make wrong partitions by it.
+    pub fn choosing(nest: &LoopNest, iterations: &Iterations, choose: Choice) -> Partition {
         let (steps, step_count) = steps(nest, iterations);
         let projected: Vec<Vector> =
             nest.dependences.iter().map(|dependence| projection(nest, dependence)).collect();
         let multipliers: Vec<i64> = projected.iter().map(|vector| multiplier(vector)).collect();
         let group_size = *multipliers.iter().max().expect("at least one dependence");
         let grouping = grouping_vector(&projected, &multipliers, group_size);
-        let auxiliary = auxiliary_vectors(&projected, grouping);
+        let auxiliary = choose(&projected, grouping);
         let chosen: Vec<Vector> =
             grouping.iter().chain(&auxiliary).map(|&number| projected[number].clone()).collect();
 
@@ -143,8 +153,10 @@ fn grouping_vector(projected: &[Vector], multipliers: &[i64], group_size: i64) -
 }
 
 /// The numbers of the auxiliary vectors: going down the list, every dependence that adds a new
-/// dimension to what the grouping vector and earlier auxiliary vectors span, all projected.
-fn auxiliary_vectors(projected: &[Vector], grouping: Option<usize>) -> Vec<usize> {
+/// dimension to what the grouping vector and earlier auxiliary vectors span, all projected. What is
+/// projected lies across the time vector and has a dimension less than the nest has loops, so β is
+/// n - 1 at most, whatever n is.
+pub fn auxiliary_vectors(projected: &[Vector], grouping: Option<usize>) -> Vec<usize> {
     let mut chosen: Vec<Vector> =
         grouping.iter().map(|&number| projected[number].clone()).collect();
     let mut auxiliary = Vec::new();
@@ -304,12 +316,13 @@ mod tests {
         assert_eq!(steps_of(&[[0, 2], [0, 2]], &[16, -16], &[1, 0]), (steps, 5));
     }
 
-    /// One time, whatever it is: 16000, or -16000 - 16000 - 16000.
+    /// One time, whatever it is: 16000, three times -16000, or four times.
     #[test]
     fn one_iteration_is_at_step_0_of_1() {
         assert_eq!(steps_of(&[[1000, 1000]], &[16], &[1]), (vec![0], 1));
-        let corner = [[-1000, -1000]; 3];
-        assert_eq!(steps_of(&corner, &[16, 16, 16], &[0, 0, 1]), (vec![0], 1));
+        let corner = [[-1000, -1000]; 4];
+        assert_eq!(steps_of(&corner[1..], &[16, 16, 16], &[0, 0, 1]), (vec![0], 1));
+        assert_eq!(steps_of(&corner, &[16, 16, 16, 16], &[0, 0, 0, 1]), (vec![0], 1));
     }
 
     /// The times are -16000, -15984, .., 16000, one for each iteration.
@@ -323,6 +336,15 @@ mod tests {
     fn three_loops_of_which_one_moves_no_time() {
         let steps = vec![0, 2, 0, 2, 1, 3, 1, 3];
         assert_eq!(steps_of(&[[0, 1]; 3], &[4, 0, 6], &[0, 0, 1]), (steps, 4));
+    }
+
+    /// P·j is 16(a - b - c + d), where a and d are -1000 and 1000, so it is -16(b + c), and b + c
+    /// is -1, 0, 0, 1.
+    #[test]
+    fn four_loops_at_both_ends_of_their_limits() {
+        let limits = [[-1000, -1000], [-1000, -999], [999, 1000], [1000, 1000]];
+        let steps = vec![2, 1, 1, 0];
+        assert_eq!(steps_of(&limits, &[16, -16, -16, 16], &[0, 0, 0, 1]), (steps, 3));
     }
 
     #[test]

@@ -45,7 +45,7 @@ pub fn most_receivers(nest: &LoopNest) -> Result<usize, Number> {
 mod tests {
     use super::*;
     use crate::refusal::WEIGHT_SPAN;
-    use crate::worked::{Worked, ALL, L2, LEAVING, LEAVING_AND_REACHED, NO_CHOSEN, ONE, P6};
+    use crate::worked::{Worked, ALL, FOUR, L2, LEAVING, LEAVING_AND_REACHED, NO_CHOSEN, ONE, P6};
 
     /// The receivers of each block in rising order, with the blocks as they are worked out by hand.
     fn receivers_of(nest: &LoopNest, blocks: &[usize]) -> Vec<Vec<usize>> {
@@ -83,6 +83,14 @@ mod tests {
         let counts = counts(&L2);
         assert_eq!(counts, vec![4, 3, 3, 2, 3, 3, 2, 1, 4, 3, 2, 4, 3, 2, 3, 2, 1]);
         assert_eq!((counts.len(), L2.bound), (17, 4));
+    }
+
+    /// Block 0 alone: three chosen vectors lead to one other each, the fourth dependence to two.
+    #[test]
+    fn one_of_15_blocks_of_four_loops_reaches_the_bound() {
+        let counts = counts(&FOUR);
+        assert_eq!(counts, vec![5, 3, 4, 2, 4, 2, 3, 1, 3, 2, 2, 1, 2, 1, 1]);
+        assert_eq!((counts.len(), FOUR.bound), (15, 5));
     }
 
     /// A dependence whose projection is zero counts in the bound like any other that is not chosen,

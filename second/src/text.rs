@@ -239,6 +239,10 @@ mod tests {
         assert_eq!(read(b"     2     2     7\nanything"), Err(4));
         assert_eq!(read(b"     0     9     7\n"), Err(2));
         assert_eq!(read(b"     0     9     7"), Err(1));
+        assert_eq!(read(b"     5     2     1\n"), Err(2));
+        assert_eq!(read(b"     5     9     7\nanything"), Err(2));
+        assert_eq!(read(b"     4     2     1\n"), Err(1));
+        assert_eq!(read(b"     4     9     1\n"), Err(3));
         assert_eq!(read(b"     0     9     7     0\n"), Err(1));
         assert_eq!(read(b"     2     2     1\n"), Err(1));
     }
@@ -304,24 +308,33 @@ mod tests {
         assert_eq!(last_numbers(8, short.trim_end()), Ok((vec![1; 8], numbers(2))));
     }
 
-    /// 326 bytes: line 1 has 3 fields, the 3 lines of limits 2 each, the time vector and the 8
-    /// dependences 3 each, the last line 16, which is 52 fields of 6 columns; and 14 line ends.
-    #[test]
-    fn the_longest_text_has_326_bytes() {
-        let nest = LoopNest {
-            depth: 3,
+    /// A nest of eight dependences with a boundary value for each.
+    fn with_most_fields(depth: usize) -> LoopNest {
+        let innermost = |d| [vec![0; depth - 1], vec![d]].concat();
+        LoopNest {
+            depth: depth as i64,
             dependence_count: 8,
             cube_dimension: 0,
-            lower: vec![0; 3],
-            upper: vec![0; 3],
-            time_vector: vec![1; 3],
-            dependences: (1..=8).map(|d| vec![0, 0, d]).collect(),
+            lower: vec![0; depth],
+            upper: vec![0; depth],
+            time_vector: vec![1; depth],
+            dependences: (1..=8).map(innermost).collect(),
             boundary_values: (1..=8).collect(),
             weights: vec![1; 8],
-        };
-        let text = write(&nest);
-        assert_eq!(text.len(), 326);
-        assert_eq!(read(text.as_bytes()), Ok(nest));
+        }
+    }
+
+    /// 393 bytes: line 1 has 3 fields, the 4 lines of limits 2 each, the time vector and the 8
+    /// dependences 4 each, the last line 16, which is 63 fields of 6 columns; and 15 line ends.
+    /// With three loops it is 52 fields and 14 line ends.
+    #[test]
+    fn the_longest_text_has_393_bytes() {
+        for (depth, bytes) in [(3, 326), (4, 393)] {
+            let nest = with_most_fields(depth);
+            let text = write(&nest);
+            assert_eq!(text.len(), bytes);
+            assert_eq!(read(text.as_bytes()), Ok(nest));
+        }
     }
 
     /// In the long line the first m fields are the values; 256 is a value and no weight.

@@ -2,40 +2,16 @@
 //! gives for its loops L1 and L2, nests worked out by hand, and document 02's boundary values (U1)
 //! and steps (U2) in sheets worked out by hand.
 
+mod common;
+
 use std::fs;
 
+use common::*;
 use second::listing::listing;
 use second::nest::{inner_product, LoopNest};
 use second::plan::Plan;
 use second::refusal::*;
 use second::text;
-
-/// The nest that an example starts from: it supplies whatever the example leaves unsaid (document
-/// 01, "Mixes to try").
-fn silent_nest(depth: usize) -> LoopNest {
-    let mut nest = LoopNest {
-        depth: depth as i64,
-        dependence_count: 0,
-        cube_dimension: 0,
-        lower: vec![0; depth],
-        upper: vec![3; depth],
-        time_vector: vec![1; depth],
-        dependences: Vec::new(),
-        boundary_values: Vec::new(),
-        weights: Vec::new(),
-    };
-    let mut innermost = vec![0; depth];
-    innermost[depth - 1] = 1;
-    set_dependences(&mut nest, &[&innermost]);
-    nest
-}
-
-fn set_dependences(nest: &mut LoopNest, dependences: &[&[i64]]) {
-    nest.dependence_count = dependences.len() as i64;
-    nest.dependences = dependences.iter().map(|dependence| dependence.to_vec()).collect();
-    nest.boundary_values = vec![1; dependences.len()];
-    nest.weights = vec![1; dependences.len()];
-}
 
 fn p1() -> LoopNest {
     let mut nest = silent_nest(2);
@@ -49,23 +25,6 @@ fn loop_l2(upper: [i64; 3]) -> LoopNest {
     nest.upper = upper.to_vec();
     set_dependences(&mut nest, &[&[0, 1, 0], &[1, 0, 0], &[0, 0, 1]]);
     nest
-}
-
-/// The plan of a nest that must be accepted, as numbers and as text.
-fn plan(nest: &LoopNest) -> Plan {
-    assert_eq!(nest.refusal(), None);
-    assert_eq!(text::read(text::write(nest).as_bytes()).as_ref(), Ok(nest));
-    Plan::new(nest)
-}
-
-/// The refusal of a nest, the same as numbers and as text.
-fn refusal(nest: &LoopNest) -> Option<Number> {
-    let as_text = text::write(nest);
-    assert_eq!(text::read(as_text.as_bytes()).err(), nest.refusal());
-    if let Some(number) = nest.refusal() {
-        assert_eq!(listing(as_text.as_bytes()), format!("{number:6}\n"));
-    }
-    nest.refusal()
 }
 
 /// The number of iterations of each block.
@@ -342,12 +301,6 @@ fn directions_whose_widths_are_no_powers_of_2() {
     assert_eq!(plan.mapping.messages.len(), 28);
 }
 
-/// A nest with some of its parts changed.
-fn changed(mut nest: LoopNest, change: impl FnOnce(&mut LoopNest)) -> LoopNest {
-    change(&mut nest);
-    nest
-}
-
 /// The names of the sheets in examples/, each with the nest that it must hold.
 fn nests_by_name() -> Vec<(&'static str, LoopNest)> {
     let one = |upper| changed(silent_nest(1), |nest| nest.upper = vec![upper]);
@@ -364,6 +317,11 @@ fn nests_by_name() -> Vec<(&'static str, LoopNest)> {
     });
     let p2 = text::read(P2_TEXT.as_bytes()).unwrap();
     let p4 = loop_l2([3, 2, 3]);
+    let four = changed(silent_nest(4), |nest| {
+        nest.cube_dimension = 2;
+        nest.upper = vec![1; 4];
+        set_dependences(nest, &[&[0, 0, 0, 1], &[0, 0, 1, 0], &[0, 1, 0, 0], &[1, 0, 0, 0]]);
+    });
     vec![
         ("P1", changed(p1(), |nest| nest.cube_dimension = 2)),
         ("P2", p2.clone()),
@@ -379,6 +337,7 @@ fn nests_by_name() -> Vec<(&'static str, LoopNest)> {
         ("P10", one(1000)),
         ("P10-refused", one(1001)),
         ("gray", row_of_64),
+        ("U11-four-loops", four),
         ("U1-two-values", changed(p2.clone(), |nest| nest.boundary_values = vec![1, 10])),
         ("refused", changed(p2, |nest| nest.time_vector = vec![1, 0])),
     ]
@@ -400,14 +359,6 @@ fn nests_with_gaps() -> Vec<(&'static str, LoopNest)> {
         ("U2-no-common-factor", with(1, [2, 3], &[&[0, 1], &[1, 0]])),
         ("U2-both-ends", with(2, [16, -16], &[&[1, 0], &[1, -1]])),
     ]
-}
-
-/// The listing of a sheet in examples/, line by line, as numbers.
-fn listed(name: &str) -> Vec<Vec<i64>> {
-    let folder = concat!(env!("CARGO_MANIFEST_DIR"), "/../examples");
-    let listing = listing(&fs::read(format!("{folder}/{name}.txt")).unwrap());
-    let number = |field: &str| field.parse().unwrap();
-    listing.lines().map(|line| line.split_whitespace().map(number).collect()).collect()
 }
 
 /// The times are 2(i + j): 0 2 4, 2 4 6, 4 6 8, five of them. (0,1) is projected to (-1/2,1/2), so
@@ -466,11 +417,9 @@ fn a_time_vector_at_both_ends_of_its_span() {
 
 #[test]
 fn the_sheets_in_examples_are_those_of_the_table() {
-    let folder = concat!(env!("CARGO_MANIFEST_DIR"), "/../examples");
     let nests = [nests_by_name(), nests_with_gaps()].concat();
     for (name, nest) in &nests {
-        let sheet = fs::read_to_string(format!("{folder}/{name}.txt")).unwrap();
-        assert_eq!(sheet, text::write(nest), "{name}");
+        assert_eq!(sheet(name), text::write(nest), "{name}");
     }
-    assert_eq!(fs::read_dir(folder).unwrap().count(), nests.len());
+    assert_eq!(fs::read_dir(EXAMPLES).unwrap().count(), nests.len());
 }

@@ -6,30 +6,38 @@ use second::rational::greatest_common_divisor;
 use crate::boundary::{boundary_values, different_values, in_either_form};
 use crate::gaps::{corner, times_with_gaps};
 use crate::random::Random;
+use crate::vectors::{most_vectors, narrow_direction, vector_passed_over, wide_directions};
 use crate::{Case, ACCEPTED};
 
 type NestMaker = fn(&mut Random) -> LoopNest;
 
 const ACCEPTED_KINDS: &[(&str, NestMaker)] = &[
-    ("one loop", one_loop),
-    ("two loops", two_loops),
-    ("deepest", deepest),
+    ("one loop", |random| nest_of_depth(random, 1)),
+    ("two loops", |random| nest_of_depth(random, 2)),
+    ("three loops", |random| nest_of_depth(random, 3)),
+    ("deepest", |random| nest_of_depth(random, greatest_depth())),
     ("any depth", any_depth),
     ("long and thin", long_and_thin),
     ("negative limits", negative_limits),
     ("many classes", many_classes),
-    ("deepest, many classes", deepest_with_many_classes),
+    ("three loops, many classes", |random| even_with_many_classes(random, 3)),
+    ("deepest, many classes", |random| even_with_many_classes(random, greatest_depth())),
     ("zero projections", zero_projections),
     ("some zero projections", some_zero_projections),
     ("one iteration", one_iteration),
     ("ends of the spans", ends_of_the_spans),
     ("unit dependences", unit_dependences),
-    ("deepest, unit dependences", deepest_with_unit_dependences),
+    ("three loops, unit dependences", |random| even_with_unit_dependences(random, 3)),
+    ("deepest, unit dependences", |random| even_with_unit_dependences(random, greatest_depth())),
     ("large cube", large_cube),
     ("longest text", longest_text),
     ("most dependences", most_dependences),
     ("times with gaps", times_with_gaps),
     ("full", full),
+    ("deepest, most vectors", most_vectors),
+    ("deepest, vector passed over", vector_passed_over),
+    ("deepest, wide directions", wide_directions),
+    ("deepest, narrow direction", narrow_direction),
 ];
 
 pub(crate) fn accepted_case(random: &mut Random, number: u64) -> Case {
@@ -47,7 +55,7 @@ pub fn accepted_nest(random: &mut Random, number: u64) -> (&'static str, LoopNes
     }
 }
 
-fn greatest_depth() -> usize {
+pub(crate) fn greatest_depth() -> usize {
     *LoopNest::DEPTHS.end() as usize
 }
 
@@ -181,21 +189,9 @@ fn weight(random: &mut Random) -> i64 {
 }
 
 fn nest_of_depth(random: &mut Random, depth: usize) -> LoopNest {
-    let lengths = any_lengths(random, depth, 200);
+    let lengths = any_lengths(random, depth, 256);
     let directions = any_directions(random, depth);
     nest_near_zero(random, &lengths, directions)
-}
-
-fn one_loop(random: &mut Random) -> LoopNest {
-    nest_of_depth(random, 1)
-}
-
-fn two_loops(random: &mut Random) -> LoopNest {
-    nest_of_depth(random, 2)
-}
-
-fn deepest(random: &mut Random) -> LoopNest {
-    nest_of_depth(random, greatest_depth())
 }
 
 fn any_depth(random: &mut Random) -> LoopNest {
@@ -241,9 +237,9 @@ fn many_classes(random: &mut Random) -> LoopNest {
     nest_near_zero(random, &lengths, directions)
 }
 
-fn deepest_with_many_classes(random: &mut Random) -> LoopNest {
-    let lengths = even_lengths(random, greatest_depth(), 200);
-    let directions = sparse_dependences(random, greatest_depth());
+fn even_with_many_classes(random: &mut Random, depth: usize) -> LoopNest {
+    let lengths = even_lengths(random, depth, 256);
+    let directions = sparse_dependences(random, depth);
     nest_near_zero(random, &lengths, directions)
 }
 
@@ -341,9 +337,9 @@ fn unit_dependences(random: &mut Random) -> LoopNest {
     nest_near_zero(random, &lengths, directions)
 }
 
-fn deepest_with_unit_dependences(random: &mut Random) -> LoopNest {
-    let lengths = even_lengths(random, greatest_depth(), 250);
-    let directions = unit_directions(random, greatest_depth());
+fn even_with_unit_dependences(random: &mut Random, depth: usize) -> LoopNest {
+    let lengths = even_lengths(random, depth, 256);
+    let directions = unit_directions(random, depth);
     nest_near_zero(random, &lengths, directions)
 }
 
@@ -374,7 +370,7 @@ fn most_dependences(random: &mut Random) -> LoopNest {
 /// A nest of the given depth with as many dependences as there may be.
 fn with_most_dependences(random: &mut Random, depth: usize) -> LoopNest {
     let most = *LoopNest::DEPENDENCE_COUNTS.end() as usize;
-    let lengths = even_lengths(random, depth, 60);
+    let lengths = even_lengths(random, depth, 81);
     loop {
         let directions = directions(random, depth, 3, most, 3, 1);
         if directions.1.len() == most {
@@ -383,10 +379,15 @@ fn with_most_dependences(random: &mut Random, depth: usize) -> LoopNest {
     }
 }
 
-/// As many iterations as the limits allow: 2001 for one loop, 64 by 64, 16 by 16 by 16, or lengths
-/// that are powers of 2.
+/// As many iterations as the limits allow: 2001 for one loop, 64 by 64, 16 by 16 by 16, 8 by 8 by 8
+/// by 8, or lengths that are powers of 2.
 fn full(random: &mut Random) -> LoopNest {
     let depth = depth_from(random, 1);
+    full_of_depth(random, depth)
+}
+
+/// The same of a depth.
+pub fn full_of_depth(random: &mut Random, depth: usize) -> LoopNest {
     let lengths = full_lengths(random, depth);
     let directions = any_directions(random, depth);
     let lower: Vec<i64> = lengths

@@ -25,6 +25,13 @@ const CORNERS: &[Corner] = &[
     (&[[0, 2], [0, 2]], &[16, -16], &[1, 0]),
     // a component of 0, and negative limits
     (&[[-4, -3], [-1, 0], [7, 8]], &[4, 0, 6], &[0, 0, 1]),
+    // four loops, times -16, 0 or 16 and 0, 2, 5 or 7 more; then at both ends of the limits
+    (&[[0, 1], [0, 1], [0, 1], [0, 1]], &[16, -16, 2, 5], &[0, 0, 0, 1]),
+    (
+        &[[-1000, -1000], [-1000, -999], [999, 1000], [1000, 1000]],
+        &[16, -16, -16, 16],
+        &[0, 0, 0, 1],
+    ),
     // one iteration; then one loop from limit to limit, with a step for each of its iterations
     (&[[1000, 1000], [1000, 1000], [1000, 1000]], &[16, 16, 16], &[0, 0, 1]),
     (&[[-1000, 1000]], &[16], &[1]),

@@ -47,7 +47,8 @@ impl Counted {
 const MOST_DRAWN: usize = 20_000;
 
 /// An accepted nest of so many dependences, a block of which sends to as many others as the bound
-/// allows. β is 1, of two loops, or 2, of three, and at least one dependence is not chosen.
+/// allows. There is one loop more than β, which is 1, 2 or 3, and at least one dependence is not
+/// chosen.
 pub fn reaching_nest(random: &mut Random, dependence_count: usize, beta: usize) -> LoopNest {
     let reaches = |nest: &LoopNest| {
         let counted = Counted::of(nest);
@@ -59,10 +60,14 @@ pub fn reaching_nest(random: &mut Random, dependence_count: usize, beta: usize) 
         .expect("a nest whose bound is reached")
 }
 
-/// A nest of two or three loops with room for many blocks around one, and up to so many dependences
+/// A nest of two loops or more with room for many blocks around one, and up to so many dependences
 /// that lead to near ones.
 fn nest_with_room(random: &mut Random, depth: usize, wanted: usize) -> LoopNest {
-    let (least, greatest, span) = if depth == 2 { (8, 24, 3) } else { (4, 8, 2) };
+    let (least, greatest, span) = match depth {
+        2 => (8, 24, 3),
+        3 => (4, 8, 2),
+        _ => (4, 6, 1),
+    };
     let lengths: Vec<i64> = (0..depth).map(|_| random.between(least, greatest)).collect();
     let mut directions: Directions = (random.vector(depth, 2), Vec::new());
     add_dependences(random, &mut directions, wanted, span, 1);
@@ -79,7 +84,7 @@ mod tests {
     fn nests_worked_out_by_hand_are_counted_so() {
         let counted: Vec<Counted> =
             ALL.iter().map(|example| Counted::of(&example.nest())).collect();
-        let by_hand = [(4, 4, 1), (0, 2, 1), (1, 3, 1), (1, 1, 0), (2, 3, 1), (3, 3, 1)];
+        let by_hand = [(4, 4, 1), (0, 2, 1), (1, 3, 1), (1, 1, 0), (2, 3, 1), (3, 3, 1), (5, 5, 1)];
         let by_hand = by_hand.map(|(most, bound, not_chosen)| Counted { most, bound, not_chosen });
         assert_eq!(counted, by_hand);
     }

@@ -177,16 +177,28 @@ fn put_lengths(random: &mut Random, nest: &mut LoopNest, given: &[i64]) {
     nest.upper = nest.lower.iter().zip(&lengths).map(|(low, length)| low + length - 1).collect();
 }
 
+/// Lengths of all loops with more iterations than there may be, some just more.
+const TOO_LONG: &[&[i64]] = &[
+    &[2001, 3],
+    &[1366, 3],
+    &[2001, 2001],
+    &[8, 513],
+    &[16, 16, 17],
+    &[3, 3, 456],
+    &[2001, 2001, 2001],
+    &[2, 2, 1025],
+    &[8, 8, 8, 9],
+    &[3, 3, 3, 152],
+    &[2001, 2001, 2001, 2001],
+    &[2, 2, 2, 513],
+];
+
 fn put_any_lengths(random: &mut Random, nest: &mut LoopNest) {
-    let pairs = [[2001, 3], [1366, 3], [2001, 2001], [8, 513]];
-    let triples = [[16, 16, 17], [3, 3, 456], [2001, 2001, 2001], [2, 2, 1025]];
-    if nest.lower.len() > 2 {
-        let lengths = random.pick(&triples);
-        put_lengths(random, nest, &lengths);
-    } else {
-        let lengths = random.pick(&pairs);
-        put_lengths(random, nest, &lengths);
-    }
+    let depth = nest.lower.len();
+    let fitting: Vec<&[i64]> =
+        TOO_LONG.iter().copied().filter(|lengths| lengths.len() == depth).collect();
+    let lengths = random.pick(&fitting);
+    put_lengths(random, nest, lengths);
 }
 
 fn put_time(random: &mut Random, nest: &mut LoopNest, component: i64) {

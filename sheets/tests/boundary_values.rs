@@ -10,7 +10,7 @@ use second::text;
 use sheets::boundary::are_equal;
 use sheets::Case;
 
-const COUNT: u64 = 2400;
+const COUNT: u64 = 3300;
 
 fn cases() -> impl Iterator<Item = Case> {
     (0..COUNT).map(|index| sheets::case(1, index))

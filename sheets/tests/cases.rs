@@ -9,7 +9,7 @@ use sheets::gaps::{corners, time_count};
 use sheets::refused::{nest_to_spoil, zero_time_nest, SPOILERS};
 use sheets::{Case, Random, ACCEPTED};
 
-const COUNT: u64 = 2400;
+const COUNT: u64 = 3300;
 
 fn cases() -> impl Iterator<Item = Case> {
     (0..COUNT).map(|index| sheets::case(1, index))
@@ -93,6 +93,8 @@ fn corners_of_steps_have_the_times_that_are_said() {
         (3, 5),        // -4, -2, 0
         (5, 65),       // -32, -16, 0, 16, 32
         (4, 11),       // the first, and 4, 6 and 10 after it
+        (12, 40),      // three times four, from -16 to 16 + 7
+        (3, 33),       // -16, 0, 16
         (1, 1),        // 48000
         (2001, 32001), // every sixteenth from -16000 to 16000
         (2002, 32017), // every sixteenth from -16016 to 16000

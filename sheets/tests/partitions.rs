@@ -208,7 +208,7 @@ fn a_block_sends_to_at_most_as_many_others_as_theorem_2_allows() {
 #[test]
 fn the_bound_is_reached_with_any_number_of_dependences() {
     let mut random = Random::new(12);
-    for (m, beta) in (2..=8).flat_map(|m| [(m, 1), (m, 2)]).filter(|(m, beta)| m > beta) {
+    for (m, beta) in (2..=8).flat_map(|m| [1, 2, 3].map(|b| (m, b))).filter(|(m, beta)| m > beta) {
         for _ in 0..3 {
             let nest = reaching_nest(&mut random, m, beta);
             assert_eq!((nest.refusal(), nest.dependences.len()), (None, m));

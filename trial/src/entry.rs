@@ -4,7 +4,7 @@
 use second::machine::Move;
 
 /// How many numbers a loop nest is lent as.
-pub const NUMBERS: usize = 52;
+pub const NUMBERS: usize = 63;
 
 /// A loop nest as the exported functions read it: depth, number of dependences, cube dimension,
 /// lower and upper limits, time vector, dependences, boundary values, weights, in this order.

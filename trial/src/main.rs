@@ -9,12 +9,13 @@ mod proved;
 
 use std::process::ExitCode;
 
+use second::nest::LoopNest;
 use trial::suite::{self, Report, Sizes, Tally};
 
 /// How many differences are shown.
 const MOST_SHOWN: usize = 10;
 
-const SIZES: Sizes = Sizes { accepted: 425, refused: 400, full: 4 };
+const SIZES: Sizes = Sizes { accepted: 475, refused: 400, full: 6 };
 
 fn main() -> ExitCode {
     let seed = match std::env::args().nth(1).map(|argument| argument.parse()) {
@@ -53,4 +54,8 @@ fn print_counts(report: &Report) {
     let refusals: Vec<String> =
         refusals.map(|number| format!("{number}: {}", total.answers[number])).collect();
     println!("moves refused, by number: {}", refusals.join(", "));
+    let of_depth = |depth: i64| report.nests.get(&("depth", depth)).copied().unwrap_or_default();
+    let depths: Vec<String> =
+        LoopNest::DEPTHS.map(|depth| format!("{depth}: {}", of_depth(depth))).collect();
+    println!("accepted nests, by depth: {}", depths.join(", "));
 }

@@ -1,20 +1,23 @@
-//! Loop nests to try, and the 52 numbers that a nest is lent as.
+//! Loop nests to try, and the 63 numbers that a nest is lent as.
+
+use std::ops::RangeInclusive;
 
 use second::nest::LoopNest;
 use second::refusal::Number;
+use sheets::accepted::full_of_depth;
 use sheets::Random;
 
 use crate::entry::{Numbers, NUMBERS};
 
 /// Where each part of a nest begins among its numbers.
-const LOWER: usize = 3;
-const UPPER: usize = 6;
-const TIME: usize = 9;
-const DEPENDENCES: usize = 12;
-const BOUNDARIES: usize = 36;
-const WEIGHTS: usize = 44;
-/// The numbers from one dependence to the next.
-const ROW: usize = 3;
+pub(crate) const LOWER: usize = 3;
+pub(crate) const UPPER: usize = 7;
+pub(crate) const TIME: usize = 11;
+pub(crate) const DEPENDENCES: usize = 15;
+pub(crate) const BOUNDARIES: usize = 47;
+pub(crate) const WEIGHTS: usize = 55;
+/// The numbers from one dependence to the next, as many as there may be loops.
+pub(crate) const ROW: usize = 4;
 
 /// Nests with more iterations are large.
 pub const LARGE: i64 = 700;
@@ -54,15 +57,19 @@ pub fn accepted(random: &mut Random, number: u64) -> LoopNest {
     }
 }
 
-/// An accepted nest of 4096 iterations.
-pub fn full(random: &mut Random) -> LoopNest {
-    for number in 0.. {
-        let (kind, nest) = sheets::accepted_nest(random, number);
-        if kind == "full" && nest.iteration_count() == LoopNest::MOST_ITERATIONS {
+/// An accepted nest of 4096 iterations in two loops or more.
+pub fn full(random: &mut Random, depth: usize) -> LoopNest {
+    loop {
+        let nest = full_of_depth(random, depth);
+        if nest.iteration_count() == LoopNest::MOST_ITERATIONS {
             return nest;
         }
     }
-    unreachable!("the kinds come round without end")
+}
+
+/// The depths at which a nest can have 4096 iterations: one loop has 2001 at most.
+pub fn full_depths() -> RangeInclusive<usize> {
+    2..=*LoopNest::DEPTHS.end() as usize
 }
 
 /// A refused nest, and its refusal: one condition met, or two, or a number out of the span of

@@ -4,14 +4,20 @@
 use second::nest::{inner_product, LoopNest};
 use second::plan::Plan;
 use second::rational::greatest_common_divisor;
+use sheets::wrong::{chosen_by, dealt_by, WRONG_CHOICES, WRONG_DEALINGS};
 
 use crate::entry::{Answer, Entry, Lent, Numbers, Planned, Request, COMPUTE, DELIVER};
+use crate::nests::{BOUNDARIES, DEPENDENCES, LOWER, ROW, TIME, UPPER, WEIGHTS};
 
 /// What a wrong entry does.
 #[derive(Clone, Copy, Debug, PartialEq, Eq)]
 pub enum Fault {
     EmptyStepsNumbered,
     StepsDividedByCommonFactor,
+    /// The dealing of bits that has this number among the wrong ones.
+    BitsDealtWrongly(usize),
+    /// The choice of auxiliary vectors that has this number among the wrong ones.
+    VectorsChosenWrongly(usize),
     LaterRankAtEqualSteps,
     StepsCompared16Bits,
     StepsComparedSigned,
@@ -59,6 +65,11 @@ pub enum Fault {
     DeliveredLengthUntested,
     ShortBufferBeforeNest,
     LengthsAreIterations,
+    FourthLoopRefused,
+    FifthLoopAccepted,
+    FourthLoopUnread,
+    DependencesInRowsOfThree,
+    UnusedLoopPlacesRead,
     UnusedPlacesRead,
     UnusedBoundaryPlacesRead,
     WeightsUntested,
@@ -147,19 +158,30 @@ impl Rules {
         if self.has(NestAs32Bits) {
             numbers.iter_mut().for_each(|number| *number = i64::from(*number as i32));
         }
-        let depth = numbers[0].clamp(0, 3) as usize;
+        let depth = self.loops_read(numbers[0]);
         let count = numbers[1].clamp(0, 8) as usize;
         let read = |fault: Fault| if self.has(fault) { 8 } else { count };
+        let row = if self.has(DependencesInRowsOfThree) { 3 } else { ROW };
+        let part = |from: usize, length: usize| numbers[from..from + length].to_vec();
         LoopNest {
             depth: numbers[0],
             dependence_count: numbers[1],
             cube_dimension: numbers[2],
-            lower: numbers[3..3 + depth].to_vec(),
-            upper: numbers[6..6 + depth].to_vec(),
-            time_vector: numbers[9..9 + depth].to_vec(),
-            dependences: (0..count).map(|i| numbers[12 + 3 * i..][..depth].to_vec()).collect(),
-            boundary_values: numbers[36..][..read(UnusedBoundaryPlacesRead)].to_vec(),
-            weights: numbers[44..][..read(UnusedPlacesRead)].to_vec(),
+            lower: part(LOWER, depth),
+            upper: part(UPPER, depth),
+            time_vector: part(TIME, depth),
+            dependences: (0..count).map(|i| part(DEPENDENCES + row * i, depth)).collect(),
+            boundary_values: part(BOUNDARIES, read(UnusedBoundaryPlacesRead)),
+            weights: part(WEIGHTS, read(UnusedPlacesRead)),
+        }
+    }
+
+    /// How many loops are read of a nest of the given depth.
+    fn loops_read(&self, depth: i64) -> usize {
+        match self.fault {
+            Some(UnusedLoopPlacesRead) => ROW,
+            Some(FourthLoopUnread) => depth.clamp(0, 3) as usize,
+            _ => depth.clamp(0, ROW as i64) as usize,
         }
     }
 
@@ -180,12 +202,14 @@ impl Rules {
         }
     }
 
-    /// The nest with values in span in the places that are not tested.
+    /// The nest as it is judged, with values in span in the places that are not tested.
     fn as_tested(&self, nest: &LoopNest) -> LoopNest {
         let mut tested = nest.clone();
         match (self.fault, &mut tested.boundary_values[..]) {
             (Some(OnlyFirstBoundaryValueTested), [_, others @ ..]) => others.fill(0),
             (Some(LastBoundaryValueUntested), [_, .., last]) => *last = 0,
+            (Some(FourthLoopRefused), _) if nest.depth == 4 => tested.depth = 5,
+            (Some(FifthLoopAccepted), _) if nest.depth == 5 => tested.depth = 4,
             _ => {}
         }
         tested
@@ -404,6 +428,21 @@ fn common_factor(numbers: &[i64]) -> i64 {
 }
 
 impl Rules {
+    /// The plan of an accepted nest, but for its steps.
+    fn planned(&self, nest: &LoopNest) -> Plan {
+        let mut plan = Plan::new(nest);
+        match self.fault {
+            Some(BitsDealtWrongly(number)) => {
+                plan.mapping = dealt_by(nest, &plan, WRONG_DEALINGS[number].1);
+            }
+            Some(VectorsChosenWrongly(number)) => {
+                (plan.partition, plan.mapping) = chosen_by(nest, &plan, WRONG_CHOICES[number].1);
+            }
+            _ => {}
+        }
+        plan
+    }
+
     /// The step of each iteration.
     fn steps(&self, nest: &LoopNest, plan: &Plan) -> Vec<i64> {
         let times = times_from_first(nest, plan);
@@ -421,9 +460,10 @@ impl Rules {
 impl Entry for Rules {
     fn plan(&self, numbers: &Numbers, tables: Planned) -> u8 {
         let nest = Rules { fault: None }.nest_in(numbers);
-        let plan = Plan::new(&nest);
+        let plan = self.planned(&nest);
         for (rank, &step) in self.steps(&nest, &plan).iter().enumerate() {
             tables.steps[rank] = step as u32;
+            tables.blocks[rank] = plan.partition.blocks[rank] as u16;
             tables.processors[rank] = plan.mapping.processors[rank] as u8;
             tables.values[rank] = plan.values[rank] as u16;
         }

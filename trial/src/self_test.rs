@@ -6,6 +6,7 @@ use second::machine::ReferenceMachine;
 use second::nest::LoopNest;
 use second::plan::Plan;
 use second::text;
+use sheets::wrong::{WRONG_CHOICES, WRONG_DEALINGS};
 use sheets::Random;
 
 use crate::entry::{Answer, Entry, Lent, Numbers, Planned, Request};
@@ -19,7 +20,7 @@ use crate::starts;
 use crate::suite::{self, Report, Sizes};
 
 const SEED: u64 = 1;
-const SIZES: Sizes = Sizes { accepted: 51, refused: 160, full: 0 };
+const SIZES: Sizes = Sizes { accepted: 70, refused: 160, full: 0 };
 
 /// The report on the rules with a fault or none, up to the first nest on which a list fails.
 fn report_on(fault: Option<Fault>) -> Report {
@@ -49,10 +50,12 @@ fn all_kinds_of_lists_nests_and_answers_come_up() {
         ("depth", LoopNest::DEPTHS),
         ("cube dimension", LoopNest::CUBE_DIMENSIONS),
         ("dependences", LoopNest::DEPENDENCE_COUNTS),
+        ("chosen vectors", 0..=LoopNest::DEPTHS.end() - 1),
     ];
     for (what, span) in spans {
         assert!(span.into_iter().all(|number| report.nests[&(what, number)] >= 1), "{what}");
     }
+    assert!(report.nests[&("depth", 4)] >= 15);
     assert!(report.nests[&("times with gaps", 1)] >= 15);
     assert!(report.nests[&("one boundary value", 0)] >= 15);
     assert!(report.nests[&("one boundary value", 1)] >= 10);
@@ -72,8 +75,11 @@ fn the_same_seed_gives_the_same_lists() {
 #[test]
 fn a_full_nest_has_the_most_iterations() {
     let mut random = Random::new(SEED);
-    let full = nests::full(&mut random);
-    assert_eq!((full.refusal(), full.iteration_count()), (None, LoopNest::MOST_ITERATIONS));
+    for depth in nests::full_depths() {
+        let full = nests::full(&mut random, depth);
+        assert_eq!((full.refusal(), full.depth), (None, depth as i64));
+        assert_eq!(full.iteration_count(), LoopNest::MOST_ITERATIONS);
+    }
 }
 
 const FAULTS: &[Fault] = &[
@@ -126,6 +132,11 @@ const FAULTS: &[Fault] = &[
     Fault::DeliveredLengthUntested,
     Fault::ShortBufferBeforeNest,
     Fault::LengthsAreIterations,
+    Fault::FourthLoopRefused,
+    Fault::FifthLoopAccepted,
+    Fault::FourthLoopUnread,
+    Fault::DependencesInRowsOfThree,
+    Fault::UnusedLoopPlacesRead,
     Fault::UnusedPlacesRead,
     Fault::UnusedBoundaryPlacesRead,
     Fault::WeightsUntested,
@@ -147,11 +158,22 @@ const FAULTS: &[Fault] = &[
     Fault::SourceOfMessageMustBeDone,
 ];
 
+/// Those of the faults in which no list fails.
+fn missed(faults: impl IntoIterator<Item = Fault>) -> Vec<Fault> {
+    let is_missed = |fault: &Fault| report_on(Some(*fault)).total().failed == 0;
+    faults.into_iter().filter(is_missed).collect()
+}
+
 #[test]
 fn every_fault_is_found() {
-    let missed: Vec<&Fault> =
-        FAULTS.iter().filter(|&&fault| report_on(Some(fault)).total().failed == 0).collect();
-    assert!(missed.is_empty(), "not found: {missed:?}");
+    assert_eq!(missed(FAULTS.iter().copied()), []);
+}
+
+/// Wrong ways to deal bits to four directions, and to choose two auxiliary vectors.
+#[test]
+fn every_wrong_plan_of_four_loops_is_found() {
+    assert_eq!(missed((0..WRONG_DEALINGS.len()).map(Fault::BitsDealtWrongly)), []);
+    assert_eq!(missed((0..WRONG_CHOICES.len()).map(Fault::VectorsChosenWrongly)), []);
 }
 
 /// What is damaged at one move of a list.

@@ -75,9 +75,11 @@ fn plan_into(
     );
     let steps = contents.steps[..count].iter().map(|&step| i64::from(step));
     let processors = contents.processors[..count].iter().map(|&processor| usize::from(processor));
+    let blocks = blocks.iter().map(|&block| usize::from(block));
     let same = [
         ("refusal", number == 0),
         ("steps", steps.eq(plan.partition.steps.iter().copied())),
+        ("blocks", blocks.eq(plan.partition.blocks.iter().copied())),
         ("processors", processors.eq(plan.mapping.processors.iter().copied())),
         ("values", values.iter().map(|&value| i64::from(value)).eq(plan.values.iter().copied())),
         ("messages", counts[4] == plan.mapping.messages.len()),

@@ -55,9 +55,9 @@ pub struct Tally {
 #[derive(Default)]
 pub struct Report {
     pub tallies: BTreeMap<&'static str, Tally>,
-    /// How many accepted nests there were of each depth, cube dimension and number of dependences,
-    /// how many whose times have a gap (1) or none (0), and how many with one boundary value for
-    /// all dependences (1) or different ones (0).
+    /// How many accepted nests there were of each depth, cube dimension, number of dependences and
+    /// number of chosen vectors, how many whose times have a gap (1) or none (0), and how many with
+    /// one boundary value for all dependences (1) or different ones (0).
     pub nests: BTreeMap<(&'static str, i64), u64>,
     pub differences: Vec<String>,
 }
@@ -84,6 +84,7 @@ impl Report {
             ("depth", nest.depth),
             ("cube dimension", nest.cube_dimension),
             ("dependences", nest.dependence_count),
+            ("chosen vectors", plan.partition.beta() as i64),
             ("times with gaps", i64::from(has_gap)),
             ("one boundary value", i64::from(are_equal(&nest.boundary_values))),
         ];
@@ -151,7 +152,8 @@ fn try_nest(entry: &dyn Entry, seed: u64, sort: Sort, number: u64, report: &mut 
             try_accepted(entry, &mut random, number, &nest, plan, report);
         }
         Sort::Full => {
-            let nest = nests::full(&mut random);
+            let depths: Vec<usize> = nests::full_depths().collect();
+            let nest = nests::full(&mut random, depths[number as usize % depths.len()]);
             try_accepted(entry, &mut random, number, &nest, Plan::new(&nest), report);
         }
         Sort::Refused => try_refused(entry, &mut random, number, report),

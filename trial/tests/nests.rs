@@ -63,7 +63,7 @@ fn numbers_at_the_ends_of_their_type_are_refused_by_the_first_condition() {
     for end in [i64::MIN, i64::MIN + 1, -1, i64::MAX - 1, i64::MAX] {
         let mut nest = Nest::from([end; NUMBERS]);
         assert_eq!(inspected(&nest), (2, 0));
-        nest.depth = 3;
+        nest.depth = 4;
         assert_eq!(inspected(&nest), (3, 0));
         nest.count = 8;
         assert_eq!(inspected(&nest), (4, 0));
@@ -78,10 +78,11 @@ fn numbers_at_the_ends_of_their_type_are_refused_by_the_first_condition() {
 fn numbers_are_a_nest_in_the_order_of_its_fields() {
     let nest = Nest::from(std::array::from_fn(|place| place as i64));
     assert_eq!((nest.depth, nest.count, nest.cube), (0, 1, 2));
-    assert_eq!((nest.lower, nest.upper, nest.time), ([3, 4, 5], [6, 7, 8], [9, 10, 11]));
-    assert_eq!((nest.dependences[0], nest.dependences[23]), (12, 35));
-    assert_eq!(nest.boundaries, [36, 37, 38, 39, 40, 41, 42, 43]);
-    assert_eq!(nest.weights, [44, 45, 46, 47, 48, 49, 50, 51]);
+    assert_eq!((nest.lower, nest.upper), ([3, 4, 5, 6], [7, 8, 9, 10]));
+    assert_eq!(nest.time, [11, 12, 13, 14]);
+    assert_eq!((nest.dependences[0], nest.dependences[31]), (15, 46));
+    assert_eq!(nest.boundaries, [47, 48, 49, 50, 51, 52, 53, 54]);
+    assert_eq!(nest.weights, [55, 56, 57, 58, 59, 60, 61, 62]);
 }
 
 /// One number out of span, in each place of the boundary values and of the weights: 13 in the first

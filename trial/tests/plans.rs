@@ -158,8 +158,10 @@ fn accepted_nests_are_planned_where_there_is_room() {
         with_gaps += u64::from(compare_accepted(&mut random, &nest));
     }
     assert!(with_gaps >= 50, "too few to see steps that nobody works in: {with_gaps}");
-    let full = nests::full(&mut random);
-    compare_accepted(&mut random, &full);
+    for depth in nests::full_depths() {
+        let full = nests::full(&mut random, depth);
+        compare_accepted(&mut random, &full);
+    }
 }
 
 /// The nest of document 01's listing with the boundary values 1 and 10, whatever stands behind them.
@@ -274,17 +276,20 @@ fn the_listing_of_the_document() {
 
 #[test]
 fn the_longest_listing_fills_the_most_bytes() {
-    let text = text::write(&nests::full(&mut Random::new(23)));
-    let mut buffer = vec![0; MAX_LISTING];
-    assert_eq!(rowlock::list(text.as_bytes(), &mut buffer), Ok(MAX_LISTING));
+    for depth in nests::full_depths() {
+        let text = text::write(&nests::full(&mut Random::new(23), depth));
+        let mut buffer = vec![0; MAX_LISTING];
+        assert_eq!(rowlock::list(text.as_bytes(), &mut buffer), Ok(MAX_LISTING));
+    }
 }
 
-/// A full nest, and those at the corners of steps: one has its times as far apart as can be.
+/// Full nests, and those at the corners of steps: one has its times as far apart as can be.
 #[test]
 fn half_a_megabyte_of_stack_is_enough() {
     let mut random = Random::new(24);
-    let full = nests::full(&mut random);
-    for nest in [vec![full], corners(&mut random)].concat() {
+    let full: Vec<LoopNest> =
+        nests::full_depths().map(|depth| nests::full(&mut random, depth)).collect();
+    for nest in [full, corners(&mut random)].concat() {
         let text = text::write(&nest);
         let length = listing(text.as_bytes()).len();
         let listed = move || rowlock::list(text.as_bytes(), &mut vec![0; MAX_LISTING]);

@@ -112,28 +112,68 @@ fn the_line_where_a_malformed_sheet_stops_fitting() {
         (whole.replace('\n', "\r\n").into_bytes(), format!("{}; {hint}", not(1, "3"))),
     ];
     for (text, expected) in cases {
-        let output = plan(&[], &text);
-        assert_planned(&output, &text, &expected);
-        let said = said(&output);
-        assert!(said.contains("1, MALFORMED_TEXT: "), "{said}");
-        assert!(said.trim_end().ends_with(&format!("; {expected}")), "{said}");
+        assert_misfit(&text, &expected);
     }
 }
 
-/// A sheet of eight dependences in three loops, with a boundary value for each: 326 bytes, as many as
-/// a sheet can have. Then one with a byte more, and one with one boundary value for all.
+/// Stops unless a text is refused as malformed, and the line says where it stops fitting.
+fn assert_misfit(text: &[u8], expected: &str) {
+    let output = plan(&[], text);
+    assert_planned(&output, text, expected);
+    let said = said(&output);
+    assert!(said.contains("1, MALFORMED_TEXT: "), "{said}");
+    assert!(said.trim_end().ends_with(&format!("; {expected}")), "{said}");
+}
+
+/// Of four loops with four dependences: line 6 is the time vector, 7 to 10 are the dependences, 11
+/// is the last, of 4 + 1 fields or 2 * 4.
+#[test]
+fn the_line_where_a_sheet_of_four_loops_stops_fitting() {
+    let whole = fs::read_to_string(root().join("examples/U11-four-loops.txt")).expect("a sheet");
+    let lines: Vec<&str> = whole.split_inclusive('\n').collect();
+    let with = |number: usize, line: &str| {
+        let mut lines = lines.clone();
+        lines[number - 1] = line;
+        lines.concat().into_bytes()
+    };
+    let not = |number: usize, fields: &str| {
+        format!("line {number} is not {fields} numbers, each right-justified in six columns")
+    };
+    assert_misfit(&with(5, "     0     1     1\n"), &not(5, "2"));
+    for number in 6..=10 {
+        assert_misfit(&with(number, "     1     1     1\n"), &not(number, "4"));
+        assert_misfit(&with(number, &line(&[1; 5])), &not(number, "4"));
+    }
+    assert_misfit(&with(11, &line(&[1; 4])), &not(11, "5 or 8"));
+    assert_misfit(&with(11, &line(&[1; 9])), &not(11, "5 or 8"));
+    assert_misfit(&with(11, ""), "line 11 is missing");
+    assert_misfit(format!("{whole}     1\n").as_bytes(), "line 12 is one too many");
+}
+
+/// A line of a sheet with these numbers.
+fn line(numbers: &[i64]) -> String {
+    second::text::write_line(numbers)
+}
+
+/// A sheet of eight dependences in four loops, with a boundary value for each: 393 bytes, as many
+/// as a sheet can have. Then some with a byte more or many, one with one boundary value for all,
+/// and one of which a byte is missing.
 #[test]
 fn the_longest_sheet() {
-    let lines =
-        "     3     8     2\n     0     2\n     0     2\n     0     2\n     1     1     1\n";
-    let units = "     0     0     1\n     0     1     0\n     1     0     0\n     0     1     1\n";
-    let others = "     1     1     0\n     1     0     1\n     1     1     1\n     1     0     2\n";
-    let weights = "     1     2     3     4     5     6     7     8\n";
+    let counts_and_limits = line(&[4, 8, 2]) + &line(&[0, 2]).repeat(4);
+    let units = [[0, 0, 0, 1], [0, 0, 1, 0], [0, 1, 0, 0], [1, 0, 0, 0]];
+    let others = [[0, 1, 1, 0], [1, 0, 0, 1], [1, 1, 1, 1], [1, 0, 0, 2]];
+    let dependences = [units, others].concat().iter().map(|d| line(d)).collect::<String>();
+    let lines = counts_and_limits + &line(&[1; 4]) + &dependences;
+    let weights = line(&[1, 2, 3, 4, 5, 6, 7, 8]);
     let values = "     9    10    11    12    13    14    15 65535";
-    let long = format!("{lines}{units}{others}{values}{weights}");
-    assert_eq!(long.len(), 326);
-    let short = format!("{lines}{units}{others}     9{weights}");
-    for text in [long.clone(), format!("{long} "), format!("{long}\n"), short] {
+    let long = format!("{lines}{values}{weights}");
+    assert_eq!(long.len(), 393);
+    let short = format!("{lines}     9{weights}");
+    let longer = [" ", "\n", "     0\n", &"7".repeat(9999)].map(|more| format!("{long}{more}"));
+    assert!(longer.iter().all(|text| listing(text.as_bytes()) == "     1\n"));
+    let cut = long[..392].to_string();
+    for text in [vec![long, short, cut], longer.to_vec()].concat() {
         assert_planned(&plan(&[], text.as_bytes()), text.as_bytes(), &text);
     }
 }
@@ -195,10 +235,13 @@ fn the_program_runs_on_a_stack_of_640_kib() {
         "     3     1     6\n     0    15\n     0    15\n     0    15\n    16    15    13\n";
     let scattered = format!("{lines}     0     0     1\n     1     1\n");
     let square = fs::read_to_string(root().join("examples/P9.txt")).expect("a sheet");
+    // the same with 8 x 8 x 8 x 8
+    let lines = line(&[4, 1, 6]) + &line(&[0, 7]).repeat(4) + &line(&[16, 15, 13, 11]);
+    let four = lines + &line(&[0, 0, 0, 1]) + &line(&[1, 1]);
     // 2 x 2001 iterations whose times are as far apart as can be, by 32016
     let lines = "     2     1     6\n     0     1\n -1000  1000\n   -16    16\n";
     let wide = format!("{lines}     0     1\n     1     1\n");
-    for text in [scattered, square, wide] {
+    for text in [scattered, square, four, wide] {
         assert_planned(&plan(&[], text.as_bytes()), text.as_bytes(), "on the usual stack");
         let sheet = place("stack.txt");
         fs::write(&sheet, &text).expect("a copy");

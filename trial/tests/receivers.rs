@@ -81,7 +81,7 @@ fn the_most_receivers_of_nests_worked_out_by_hand() {
         let lent = plain(&example.nest());
         (planned_most(&lent, &example.nest()), asked(&lent).1)
     });
-    assert!(counted.eq([(4, 4), (0, 2), (1, 3), (1, 1), (2, 3), (3, 3)]));
+    assert!(counted.eq([(4, 4), (0, 2), (1, 3), (1, 1), (2, 3), (3, 3), (5, 5)]));
 }
 
 /// Asks for an accepted nest and compares with the second planner; no block of its plan may have
@@ -100,7 +100,7 @@ fn compare_accepted(random: &mut Random, nest: &LoopNest) -> bool {
 fn no_block_of_an_accepted_nest_has_more() {
     let mut random = Random::new(61);
     let mut nests = accepted(62, 1500);
-    nests.push(nests::full(&mut random));
+    nests.extend(nests::full_depths().map(|depth| nests::full(&mut random, depth)));
     nests.extend(corners(&mut random));
     let reached = nests.iter().filter(|nest| compare_accepted(&mut random, nest)).count();
     assert!(reached >= 50, "too few to see a bound that is too large: {reached}");
@@ -110,7 +110,7 @@ fn no_block_of_an_accepted_nest_has_more() {
 #[test]
 fn a_block_may_have_as_many() {
     let mut random = Random::new(63);
-    for (m, beta) in (2..=8).flat_map(|m| [(m, 1), (m, 2)]).filter(|(m, beta)| m > beta) {
+    for (m, beta) in (2..=8).flat_map(|m| [1, 2, 3].map(|b| (m, b))).filter(|(m, beta)| m > beta) {
         for _ in 0..4 {
             let nest = reaching_nest(&mut random, m, beta);
             let lent = lent(&mut random, &nest);

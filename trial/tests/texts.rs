@@ -89,12 +89,14 @@ fn each_boundary_value_of_a_text_is_judged() {
     }
 }
 
-/// Texts of one, two and three loops with a zero time vector; the last two are also wrong behind it.
-const ZERO_TIMES: [&[u8]; 3] = [
+/// Texts of one to four loops with a zero time vector; all but the first are also wrong behind it.
+const ZERO_TIMES: [&[u8]; 4] = [
     b"     1     1     0\n     0     3\n     0\n     1\n     0     1\n",
     b"     2     1     0\n     0     3\n     0     3\n     0     0\n     0     1\n     0   256\n",
     b"     3     1     6\n     0     1\n     0     1\n     0     1\n     0     0     0\n\
       \x20    1    -1     2\n    -1     1\n",
+    b"     4     1     6\n     0     1\n     0     1\n     0     1\n     0     1\n\
+      \x20    0     0     0     0\n     0     1    -1     2\n 65536     1\n",
 ];
 
 #[test]

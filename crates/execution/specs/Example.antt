@@ -20,7 +20,7 @@ use Rattle.partition.specs.Partition.{distinctProducts, step, stepsOf, frameOf,
 use Rattle.grouping.specs.Grouping.{pivot, clear, remainder, mayGroup, groupingVector, extend, chosenVectors, latest}
 use Rattle.grouping.specs.Grouping.{coefficients, left, isCombination, frame, directions, difference, sameClass}
 use Rattle.grouping.specs.Grouping.{coordinates, seeds, eqG, quotients, classNumber, group, blocks, blockNumber}
-use Rattle.mapping.specs.Mapping.{inOrder, direction, undealt, takesBit, withBit as dealtBit, noDirection, nextTurn}
+use Rattle.mapping.specs.Mapping.{orderIn, directionIn, undealtIn, takesBit, withBit as dealtBit, noDirection, nextTurn}
 use Rattle.mapping.specs.Mapping.{dealBit, dealBits, dealt, gray, partOf, joined, processor, directionsOf, processorsOf}
 use Rattle.mapping.specs.Mapping.{crosses, isMessage}
 use Rattle.sequential.specs.Sequential.{sourceValue, valueOf, weightedSum, ruleOf}
@@ -46,8 +46,8 @@ unfolding any all first place firstsAfter firsts count repeats tab greatest firs
     isZeroV floorDiv toℕ part limitsOf timeOf dependencesOf padded nestOf extent indices points pointsOf rank
     isPoint source projection divides makesWhole multiplier groupSize leastZ step pivot clear remainder mayGroup
     groupingVector extend chosenVectors latest coefficients left isCombination frame directions difference sameClass
-    coordinates seeds eqG quotients classNumber group blocks blockNumber frameOf groupsOf inOrder greatestZ
-    direction undealt takesBit dealtBit noDirection nextTurn dealBit dealBits dealt gray partOf joined processor
+    coordinates seeds eqG quotients classNumber group blocks blockNumber frameOf groupsOf orderIn greatestZ
+    directionIn undealtIn takesBit dealtBit noDirection nextTurn dealBit dealBits dealt gray partOf joined processor
     directionsOf processorsOf vector listedWith listed flatMap
 example-processors = refl
 
@@ -104,7 +104,7 @@ unfolding any all first place firstsAfter firsts count repeats tab greatest firs
     isPoint source sourceRank projection divides makesWhole multiplier groupSize leastZ distinctProducts step pivot
     clear remainder mayGroup groupingVector extend chosenVectors latest coefficients left isCombination frame
     directions difference sameClass coordinates seeds eqG quotients classNumber group blocks blockNumber stepsOf
-    frameOf groupsOf inOrder greatestZ direction undealt takesBit dealtBit noDirection nextTurn dealBit dealBits
+    frameOf groupsOf orderIn greatestZ directionIn undealtIn takesBit dealtBit noDirection nextTurn dealBit dealBits
     dealt gray partOf joined processor directionsOf processorsOf crosses isMessage vector listedWith listed flatMap
     every better least taking delivering effect
 example-reference = refl

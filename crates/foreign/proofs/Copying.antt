@@ -1,7 +1,7 @@
 -- Numbers of one array copied into another. Assumes nothing.
 use mathlib.Core.Path.{_≡_, refl, sym, ap, _∙_}
 use mathlib.Core.List.{List, [], _∷_, _++_}
-use Prim.Native.Nat.{ℕ, suc, _+_, _≤_, _<_}
+use Prim.Native.Nat.{ℕ, suc, _+_, _*_, _≤_, _<_}
 use native.Mathlib.Omega.{arith}
 use lib.IntN.{ℤ, pos}
 use lib.ListN.{length, getD, set, replicate}
@@ -9,8 +9,8 @@ use lib.Seq.{sets, length-sets}
 use Rattle.integers.specs.Lists.{tab}
 use Rattle.integers.proofs.Lists.{tab-more, length-tab}
 use Rattle.nest.specs.declared.LoopNest.{LoopNest}
-use Rattle.nest.specs.Nest.{part}
-use Rattle.foreign.specs.Numbers.{numbersOf}
+use Rattle.nest.specs.Nest.{part, maxDepth, maxDependences}
+use Rattle.foreign.specs.Numbers.{upperFrom, timeFrom, dependencesFrom, boundariesFrom, weightsFrom, numberCount, numbersOf}
 
 -- the first k of n numbers are copied
 abbrev pub Copied : List ℤ → ℕ → List ℤ → ℕ → ℕ → ℕ → List ℤ → Type 0
@@ -48,10 +48,10 @@ copied-end old at xs from n k out h c =
 
 -- the parts of a nest, copied one behind the other
 pub copied-nest : (s : LoopNest) (x y z : ℤ) (a b c d e f g : List ℤ) → x ≡ s .depth → y ≡ s .count → z ≡ s .cube
-    → a ≡ sets (replicate 52 (pos 0)) 0 (part (x ∷ y ∷ z ∷ []) 0 3) → b ≡ sets a 3 (part (s .lower) 0 3) → c ≡ sets b 6 (part (s .upper) 0 3) → d ≡ sets c 9 (part (s .time) 0 3)
-    → e ≡ sets d 12 (part (s .dependences) 0 24) → f ≡ sets e 36 (part (s .boundaries) 0 8) → g ≡ sets f 44 (part (s .weights) 0 8) → g ≡ numbersOf s
+    → a ≡ sets (replicate numberCount (pos 0)) 0 (part (x ∷ y ∷ z ∷ []) 0 3) → b ≡ sets a 3 (part (s .lower) 0 maxDepth) → c ≡ sets b upperFrom (part (s .upper) 0 maxDepth) → d ≡ sets c timeFrom (part (s .time) 0 maxDepth)
+    → e ≡ sets d dependencesFrom (part (s .dependences) 0 (maxDepth * maxDependences)) → f ≡ sets e boundariesFrom (part (s .boundaries) 0 maxDependences) → g ≡ sets f weightsFrom (part (s .weights) 0 maxDependences) → g ≡ numbersOf s
 unfolding part tab numbersOf
 copied-nest s x y z a b c d e f g p q r ha hb hc hd he hf hg =
-    let h : f ≡ sets (sets (sets (sets (sets (sets (replicate 52 (pos 0)) 0 (x ∷ y ∷ z ∷ [])) 3 (part (s .lower) 0 3)) 6 (part (s .upper) 0 3)) 9 (part (s .time) 0 3)) 12 (part (s .dependences) 0 24)) 36 (part (s .boundaries) 0 8) =
+    let h : f ≡ sets (sets (sets (sets (sets (sets (replicate numberCount (pos 0)) 0 (x ∷ y ∷ z ∷ [])) 3 (part (s .lower) 0 maxDepth)) upperFrom (part (s .upper) 0 maxDepth)) timeFrom (part (s .time) 0 maxDepth)) dependencesFrom (part (s .dependences) 0 (maxDepth * maxDependences))) boundariesFrom (part (s .boundaries) 0 maxDependences) =
     rw (hf, he, hd, hc, hb, ha) refl in
     hg ∙ rw (h, p, q, r) refl

@@ -18,7 +18,7 @@ use Rattle.nest.proofs.Accepted.{depth-is, count-is, none-crossed, component-si
 use Rattle.nest.proofs.Order.{point-count}
 use Rattle.nest.proofs.PointLaws.{few-points}
 use Rattle.nest.proofs.Words.{dependence-at}
-use Rattle.foreign.specs.Numbers.{nestIn}
+use Rattle.foreign.specs.Numbers.{upperFrom, timeFrom, dependencesFrom, boundariesFrom, weightsFrom, numberCount, nestIn}
 use Rattle.foreign.proofs.Parts.{joined-nest}
 
 -- a part of numbers that is lent
@@ -29,12 +29,12 @@ lent-part xs a n h =
     sym (tab-list (λ i. getD xs (a + i) (pos 0)) (take n (drop a xs)) (pos 0) n (length-take-le n (drop a xs) l) (λ i b. sym (getD-take n (drop a xs) i (pos 0) b ∙ getD-drop a xs i (pos 0))))
 
 -- the nest that has the lent parts is the one that the numbers are
-pub lent-nest : (xs : List ℤ) → length xs ≡ 52
-    → nestFrom (getD xs 0 (pos 0)) (getD xs 1 (pos 0)) (getD xs 2 (pos 0)) (take 3 (drop 3 xs)) (take 3 (drop 6 xs)) (take 3 (drop 9 xs)) (take 24 (drop 12 xs)) (take 8 (drop 36 xs)) (take 8 (drop 44 xs))
+pub lent-nest : (xs : List ℤ) → length xs ≡ numberCount
+    → nestFrom (getD xs 0 (pos 0)) (getD xs 1 (pos 0)) (getD xs 2 (pos 0)) (take maxDepth (drop 3 xs)) (take maxDepth (drop upperFrom xs)) (take maxDepth (drop timeFrom xs)) (take (maxDepth * maxDependences) (drop dependencesFrom xs)) (take maxDependences (drop boundariesFrom xs)) (take maxDependences (drop weightsFrom xs))
     ≡ nestIn xs
 lent-nest xs h =
-    joined-nest xs (getD xs 0 (pos 0)) (getD xs 1 (pos 0)) (getD xs 2 (pos 0)) (take 3 (drop 3 xs)) (take 3 (drop 6 xs)) (take 3 (drop 9 xs)) (take 24 (drop 12 xs)) (take 8 (drop 36 xs)) (take 8 (drop 44 xs)) refl refl refl
-    (lent-part xs 3 3 (omega arith)) (lent-part xs 6 3 (omega arith)) (lent-part xs 9 3 (omega arith)) (lent-part xs 12 24 (omega arith)) (lent-part xs 36 8 (omega arith)) (lent-part xs 44 8 (omega arith))
+    joined-nest xs (getD xs 0 (pos 0)) (getD xs 1 (pos 0)) (getD xs 2 (pos 0)) (take maxDepth (drop 3 xs)) (take maxDepth (drop upperFrom xs)) (take maxDepth (drop timeFrom xs)) (take (maxDepth * maxDependences) (drop dependencesFrom xs)) (take maxDependences (drop boundariesFrom xs)) (take maxDependences (drop weightsFrom xs)) refl refl refl
+    (lent-part xs 3 maxDepth (omega arith)) (lent-part xs upperFrom maxDepth (omega arith)) (lent-part xs timeFrom maxDepth (omega arith)) (lent-part xs dependencesFrom (maxDepth * maxDependences) (omega arith)) (lent-part xs boundariesFrom maxDependences (omega arith)) (lent-part xs weightsFrom maxDependences (omega arith))
 
 -- what `source_rank` asks
 abbrev pub Asked : List ℤ → List ℤ → List ℤ → ℕ → ℕ → ℕ → ℕ → Type 0
@@ -80,19 +80,19 @@ module _ (s : LoopNest) (k i : ℕ) (few : i < countOf s) where
         (subst (λ x. Answered (s .lower) x dependences d k i j) q (subst (λ x. Answered x upper dependences d k i j) p g))))
 
 -- the parts of the nest that numbers are, and their lengths
-pub lower-lent : (xs : List ℤ) → length xs ≡ 52 → take 3 (drop 3 xs) ≡ nestIn xs .lower
+pub lower-lent : (xs : List ℤ) → length xs ≡ numberCount → take maxDepth (drop 3 xs) ≡ nestIn xs .lower
 unfolding nestIn
-lower-lent xs h = lent-part xs 3 3 (omega arith)
+lower-lent xs h = lent-part xs 3 maxDepth (omega arith)
 
-pub upper-lent : (xs : List ℤ) → length xs ≡ 52 → take 3 (drop 6 xs) ≡ nestIn xs .upper
+pub upper-lent : (xs : List ℤ) → length xs ≡ numberCount → take maxDepth (drop upperFrom xs) ≡ nestIn xs .upper
 unfolding nestIn
-upper-lent xs h = lent-part xs 6 3 (omega arith)
+upper-lent xs h = lent-part xs upperFrom maxDepth (omega arith)
 
-pub dependences-lent : (xs : List ℤ) → length xs ≡ 52 → take 24 (drop 12 xs) ≡ nestIn xs .dependences
+pub dependences-lent : (xs : List ℤ) → length xs ≡ numberCount → take (maxDepth * maxDependences) (drop dependencesFrom xs) ≡ nestIn xs .dependences
 unfolding nestIn
-dependences-lent xs h = lent-part xs 12 24 (omega arith)
+dependences-lent xs h = lent-part xs dependencesFrom (maxDepth * maxDependences) (omega arith)
 
-pub lengths-lent : (xs : List ℤ) → (length (nestIn xs .lower) ≡ 3) × (length (nestIn xs .upper) ≡ 3) × (length (nestIn xs .dependences) ≡ 24)
+pub lengths-lent : (xs : List ℤ) → (length (nestIn xs .lower) ≡ maxDepth) × (length (nestIn xs .upper) ≡ maxDepth) × (length (nestIn xs .dependences) ≡ maxDepth * maxDependences)
 unfolding nestIn part tab
 lengths-lent xs = (refl, refl, refl)
 

@@ -1,4 +1,4 @@
-// A nest as 52 numbers in a row, in the order of LoopNest's fields.
+// A nest as 63 numbers in a row, in the order of LoopNest's fields.
 use nest::Inspection;
 use nest::LoopNest;
 ghost use mathlib.Core.Path.{_≡_};
@@ -42,7 +42,7 @@ fn copy(out: &mut [i64], at: usize, numbers: &[i64], from: usize, count: usize)
     }
 }
 
-// The nest that 52 numbers are.
+// The nest that 63 numbers are.
 pub fn nest_in(numbers: &[i64; NUMBERS]) -> LoopNest
     ensures { λ r. ⌜ r ≡ nestIn (now (numbers .entry)) ⌝ }
 {
@@ -77,7 +77,7 @@ pub fn nest_in(numbers: &[i64; NUMBERS]) -> LoopNest
     }
 }
 
-// `inspect` of the nest that 52 numbers are, which stays where it is.
+// `inspect` of the nest that 63 numbers are, which stays where it is.
 pub fn inspect_in(numbers: &[i64]) -> Inspection
     requires { ⌜ length (now numbers) ≡ numberCount ⌝ }
     ensures { λ r. ⌜ Inspects (nestIn (now (numbers .entry))) r ⌝ }
@@ -96,7 +96,7 @@ pub fn inspect_in(numbers: &[i64]) -> Inspection
 }
 
 // The rank of the source of iteration k along dependence i, of the accepted nest of so many
-// iterations that 52 numbers are; their number where the source is none of them.
+// iterations that 63 numbers are; their number where the source is none of them.
 pub fn source_in(numbers: &[i64], iterations: usize, k: usize, i: usize) -> usize
     requires { ⌜ length (now numbers) ≡ numberCount ⌝ }
     requires { ⌜ (refusal (nestIn (now numbers)) ≡ 0) × (iterations ≡ length (pointsOf (nestIn (now numbers))))
@@ -115,7 +115,7 @@ pub fn source_in(numbers: &[i64], iterations: usize, k: usize, i: usize) -> usiz
     )
 }
 
-// The 52 numbers of a nest.
+// The 63 numbers of a nest.
 pub fn numbers_of(s: LoopNest) -> [i64; NUMBERS]
     ensures { λ r. ⌜ r ≡ numbersOf s ⌝ }
 {

@@ -61,7 +61,7 @@ pub struct LoopNest {
 }
 
 impl LoopNest {
-    pub const MAX_DEPTH: usize = 3;
+    pub const MAX_DEPTH: usize = 4;
 
     pub const MAX_DEPENDENCES: usize = 8;
 

@@ -1,6 +1,5 @@
 // Projection lines of the index points in loop order, found by the points' keys: the iteration
 // before one on its line is the source along the line's vector.
-use crate::inputs::four_of;
 use nest::LoopNest;
 ghost use mathlib.Core.Path.{_≡_};
 ghost use mathlib.Core.List.{_++_};
@@ -56,8 +55,7 @@ pub fn points_into(keys: &[i64], n: usize, heads: &[u16], count: usize, points: 
     for l in 0..count {
         let k = heads[l] as usize;
         let j = sources::vector_at(keys[k], n);
-        let row = four_of(&j, 0, LoopNest::MAX_DEPTH);
-        numbering::put_row(points, l, row);
+        numbering::put_row(points, l, j);
     }
 }
 

@@ -1,27 +1,31 @@
 -- The partition's table of the blocks' groups is one that the mapping reads; and what the called functions ensure, as the plan's parts. Assumes nothing.
 use mathlib.Core.Path.{_≡_, refl, sym, ap, ap₂, subst, _∙_}
 use mathlib.Core.List.{List, [], _∷_, _++_, reverse}
-use Prim.Native.Nat.{ℕ, zero, suc, _*_, _^_, _<_, _≤_}
+use Prim.Native.Nat.{ℕ, zero, suc, _+_, _-_, _*_, _^_, _<_, _≤_}
 use native.Mathlib.Omega.{arith}
 use lib.Dec.{eqb}
 use lib.IntN.{ℤ, pos, natAbs}
 use lib.ListN.{length, getD, take, drop, length-append}
 use Rattle.integers.specs.Lists.{tab, count, firsts, total}
 use Rattle.integers.specs.Vector.{Vector}
+use Rattle.integers.proofs.Lists.{tab-same, tab-list}
 use Rattle.integers.proofs.Vector.{getD-within}
 use Rattle.nest.specs.declared.LoopNest.{LoopNest}
-use Rattle.nest.specs.Nest.{padded, countOf, maxDepth, maxCube}
+use Rattle.nest.specs.Nest.{part, padded, countOf, maxDepth, maxCube}
 use Rattle.nest.specs.Points.{pointsOf}
 use Rattle.nest.specs.Refusals.{refusal}
 use Rattle.nest.proofs.Accepted.{depth-is}
+use Rattle.nest.proofs.Words.{part-at}
 use Rattle.grouping.specs.Grouping.{Group}
 use Rattle.partition.specs.Partition.{noGroup, stepCount, blockCount, blockGroups, chosenOf}
 use Rattle.grouping.specs.Basis.{pick, Fill}
+use Rattle.numbering.specs.Limits.{components}
 use Rattle.numbering.specs.Tables.{row}
 use Rattle.partition.specs.GroupRows.{GroupRow, GroupTable}
 use Rattle.partition.proofs.Theorems.{chosen-bound}
-use Rattle.mapping.specs.Mapping.{inOrder, nextTurn, processorsOf, processorCount, isMessage, messageCount}
+use Rattle.mapping.specs.Mapping.{orderIn, inOrder, nextTurn, processorsOf, processorCount, isMessage, messageCount}
 use Rattle.mapping.specs.GroupNumbers.{Laid, RowsInSpan, columnOf, valuesIn, numberAt}
+use Rattle.mapping.proofs.Deals.{turn-below, turn-next, turn-first}
 use Rattle.mapping.proofs.Theorems.{processors-length, table-below, table-processors, table-messages}
 use Rattle.sequential.specs.Sequential.{sequential, loop, ruleOf, valuesOf}
 use Rattle.planner.specs.declared.Planning.{Planning}
@@ -29,32 +33,45 @@ use Rattle.planner.specs.Plan.{planAnswer}
 
 -- ---- the table of groups
 
--- the numbers that the mapping reads are those of the row
-number-is : (rows : List ℤ) (k j : ℕ) → j < maxDepth → numberAt rows j k ≡ getD (row rows k) j (pos 0)
-number-is rows k zero h = ap (λ (a : ℕ). getD rows a (pos 0)) (omega arith)
-number-is rows k (suc zero) h = refl
-number-is rows k (suc (suc zero)) h = refl
-number-is rows k (suc (suc (suc j))) h = absurd (omega arith)
+-- a row is so many places of the table
+row-part : (rows : List ℤ) (k : ℕ) → row rows k ≡ part rows (k * components) components
+unfolding part tab
+row-part rows k = ap (λ (a : ℕ). getD rows a (pos 0) ∷ drop 1 (row rows k)) (omega arith)
 
--- with at most two chosen vectors, a group's values in the order of the directions are q, b and the class
-order-is : (count : ℕ) (x y z : ℤ) (g : Group) → count ≤ 2 → Fill count x y z → pick count x y z ≡ g .along → x ∷ y ∷ pos (g .class) ∷ [] ≡ inOrder g
-unfolding inOrder padded
-order-is zero x y z g h f e =
-    ap₂ (λ (a b : ℤ). a ∷ b ∷ pos (g .class) ∷ []) (f .0) (f .1) ∙ ap (λ (l : List ℤ). padded 2 (reverse l) ++ (pos (g .class) ∷ [])) e
-order-is (suc zero) x y z g h f e =
-    ap (λ (b : ℤ). x ∷ b ∷ pos (g .class) ∷ []) (f .0) ∙ ap (λ (l : List ℤ). padded 2 (reverse l) ++ (pos (g .class) ∷ [])) e
-order-is (suc (suc zero)) x y z g h f e = ap (λ (l : List ℤ). padded 2 (reverse l) ++ (pos (g .class) ∷ [])) e
-order-is (suc (suc (suc n))) x y z g h f e = absurd (omega arith)
+-- the numbers that the mapping reads are those of the row
+number-is : (rows : List ℤ) (k j : ℕ) → j < components → numberAt rows j k ≡ getD (row rows k) j (pos 0)
+number-is rows k j h = sym (ap (λ (v : Vector). getD v j (pos 0)) (row-part rows k) ∙ part-at rows (k * components) components j h)
+
+-- numbers read from the second on, and the first one last
+turned : (x : ℤ) (v : Vector) → tab (λ j. getD (x ∷ v) (nextTurn (suc (length v)) j) (pos 0)) (suc (length v)) ≡ v ++ (x ∷ [])
+unfolding tab
+turned x v =
+    ap₂ (λ (w : Vector) (i : ℕ). w ++ (getD (x ∷ v) i (pos 0) ∷ []))
+    (tab-list (λ j. getD (x ∷ v) (nextTurn (suc (length v)) j) (pos 0)) v (pos 0) (length v) refl (λ j h. ap (λ (i : ℕ). getD (x ∷ v) i (pos 0)) (let e : j + 1 ≡ suc j = omega arith in turn-next (suc (length v)) j (omega arith) ∙ e)))
+    (turn-first (suc (length v)) (length v) (omega arith))
+
+-- the coordinates along the vectors that are chosen, in the order of their choice, and 0 along the others
+along-padded : (count : ℕ) (x y z : ℤ) → count ≤ 3 → Fill count x y z → padded 3 (reverse (pick count x y z)) ≡ x ∷ y ∷ z ∷ []
+unfolding padded
+along-padded zero x y z h f = λ i. sym (f .0) i ∷ sym (f .1) i ∷ sym (f .2) i ∷ []
+along-padded (suc zero) x y z h f = λ i. x ∷ sym (f .0) i ∷ sym (f .1) i ∷ []
+along-padded (suc (suc zero)) x y z h f = λ i. x ∷ y ∷ sym f i ∷ []
+along-padded (suc (suc (suc zero))) x y z h f = refl
+along-padded (suc (suc (suc (suc n)))) x y z h f = absurd (omega arith)
 
 -- the values of a row are those of its group
-values-are : (rows : List ℤ) (k count : ℕ) (g : Group) → count ≤ 2 → GroupRow count g (row rows k) → valuesIn rows k ≡ inOrder g
-unfolding valuesIn columnOf tab nextTurn
+values-are : (rows : List ℤ) (k count : ℕ) (g : Group) → count < maxDepth → GroupRow count g (row rows k) → valuesIn rows k ≡ inOrder g
+unfolding valuesIn columnOf orderIn
 values-are rows k count g h r =
-    ap (λ (a : ℤ). numberAt rows 1 k ∷ numberAt rows 2 k ∷ a ∷ []) (number-is rows k 0 (omega arith) ∙ r .class-is) ∙ order-is count (numberAt rows 1 k) (numberAt rows 2 k) (getD (row rows k) 3 (pos 0)) g h (r .fill) (r .along-is)
+    tab-same (λ j. numberAt rows (nextTurn maxDepth j) k) (λ j. getD (row rows k) (nextTurn maxDepth j) (pos 0)) maxDepth (λ j l. number-is rows k (nextTurn maxDepth j) (turn-below maxDepth j l))
+    ∙ turned (getD (row rows k) 0 (pos 0)) (drop 1 (row rows k))
+    ∙ ap₂ (λ (v : Vector) (c : ℤ). v ++ (c ∷ []))
+    (sym (along-padded count (getD (row rows k) 1 (pos 0)) (getD (row rows k) 2 (pos 0)) (getD (row rows k) 3 (pos 0)) (omega arith) (r .fill)) ∙ ap (λ (l : List ℤ). padded (maxDepth - 1) (reverse l)) (r .along-is))
+    (r .class-is)
 
 module _ (s : LoopNest) (ok : refusal s ≡ 0) (rows : List ℤ) (T : GroupTable (chosenOf s) (blockGroups s) rows) (h : blockCount s * 4 ≤ length rows) where
-  -- at most two chosen vectors
-  few : chosenOf s ≤ 2
+  -- fewer vectors are chosen than there may be loops
+  few : chosenOf s < maxDepth
   few = omega (arith, chosen-bound s ok, depth-is s ok .1)
 
   -- there is a row for each block

@@ -1,5 +1,5 @@
 -- Serves as examples: P1 to P10 of document 01 ("Mixes to try"), the counts of 000's loops L1 and
--- L2, and four nests worked out by hand, as one table; `examples-hold` checks all of it on the
+-- L2, and nests worked out by hand, as one table; `examples-hold` checks all of it on the
 -- definitions, by computation. Where a case is silent: limits 0..3, time vector of ones, cube
 -- dimension 0, boundary values and weights 1, and the dependence is 1 in the innermost loop.
 -- Assumes nothing.
@@ -17,7 +17,7 @@ use Rattle.integers.specs.Vector.{Vector, dots, plus, times, eqZ, eqV, isZeroV}
 use Rattle.integers.specs.Division.{floorDiv}
 use Rattle.nest.specs.declared.LoopNest.{LoopNest}
 use Rattle.nest.specs.Nest.{toℕ, part, limitsOf, timeOf, dependencesOf, boundariesOf, weightsOf, padded, nestOf}
-use Rattle.nest.specs.Nest.{emptyNest, countOf}
+use Rattle.nest.specs.Nest.{emptyNest, withShape, countOf}
 use Rattle.nest.specs.Points.{extent, indices, points, pointsOf, pointCount, rank, isPoint, source}
 use Rattle.nest.specs.Refusals.{number, outside, crossed, outOfSpan, backward, against, holds, firstMet}
 use Rattle.nest.specs.Refusals.{refusal, orElse}
@@ -39,7 +39,7 @@ use Rattle.grouping.specs.Grouping.{chosenCount, latest, coefficients, left, is
 use Rattle.grouping.specs.Grouping.{difference, sameClass, coordinates, seeds, eqG, quotients, classNumber, group}
 use Rattle.grouping.specs.Grouping.{blocks, blockNumber}
 use Rattle.mapping.specs.GrayCodes.{grayCodes}
-use Rattle.mapping.specs.Mapping.{inOrder, direction, undealt, takesBit, withBit, noDirection, nextTurn, dealBit}
+use Rattle.mapping.specs.Mapping.{orderIn, directionIn, undealtIn, takesBit, withBit, noDirection, nextTurn, dealBit}
 use Rattle.mapping.specs.Mapping.{dealBits, dealt, gray, partOf, joined, processor, directionsOf, processorsOf}
 use Rattle.mapping.specs.Mapping.{processorCount, crosses, isMessage, messageCount}
 use Rattle.sequential.specs.Sequential.{sourceValue, valueOf as madeOf, loop, sequential, weightedSum, ruleOf}
@@ -150,6 +150,70 @@ uneven = nestWith (1 ∷ 5 ∷ 4 ∷ []) (vector (1 ∷ 0 ∷ 0 ∷ []))
 -- that is printed for part k.
 unfoldable pub rowOf64 : LoopNest
 rowOf64 = nestWith (0 ∷ 63 ∷ []) (vector (1 ∷ 0 ∷ [])) (vector (1 ∷ 0 ∷ []) ∷ []) 6
+
+-- Four loops, β = 3 (document 02, U11). P is (1,1,1,1), so s is 4 and every dependence has r_i = 4:
+-- (3,-1,-1,-1) and the like become whole no earlier. The first is the grouping vector, the second
+-- and the third are auxiliary; the projection of the fourth, (1,0,0,0), is minus the sum of the
+-- other three, so it is not chosen. (x,y,z,w) has u = w - x, b = z - x, second b = y - x in one
+-- class, whose seed is (0,0,0,0). u is -1, 0 or 1, so q, u / 4 rounded down, is -1, 0, 0. Only
+-- (0,0,0,0) and (1,1,1,1) have one projection. Widths of q, b, second b, class: 2, 3, 3, 1. The
+-- parts of q = -1, 0 are 0, 1, those of b = -1, 0, 1 are 0, 0, 1. Two bits go to q and b:
+-- 2 × code of q + code of b. A third goes to the second b, and then none can take one.
+unfoldable pub fourLoops : ℕ → LoopNest
+fourLoops c = nestWith (1 ∷ 1 ∷ 1 ∷ 1 ∷ []) (vector (1 ∷ 1 ∷ 1 ∷ 1 ∷ []))
+    (vector (0 ∷ 0 ∷ 0 ∷ 1 ∷ []) ∷ vector (0 ∷ 0 ∷ 1 ∷ 0 ∷ []) ∷ vector (0 ∷ 1 ∷ 0 ∷ 0 ∷ [])
+    ∷ vector (1 ∷ 0 ∷ 0 ∷ 0 ∷ []) ∷ []) c
+
+unfoldable pub fourText : Bytes
+fourText =
+    lines (
+    "     4     4     2"
+    ∷ "     0     1"
+    ∷ "     0     1"
+    ∷ "     0     1"
+    ∷ "     0     1"
+    ∷ "     1     1     1     1"
+    ∷ "     0     0     0     1"
+    ∷ "     0     0     1     0"
+    ∷ "     0     1     0     0"
+    ∷ "     1     0     0     0"
+    ∷ "     1     1     1     1     1"
+    ∷ [])
+
+-- The step of (x,y,z,w) is x + y + z + w. Blocks are numbered by first iteration; (1,1,1,1) is in
+-- that of (0,0,0,0). Messages: along (0,0,0,1) to 9, 11, 13, 15; along (0,0,1,0) to 2, 3, 6, 7;
+-- along (1,0,0,0) to 8, 10, 11, 12, 14, 15. The value is the rank plus the four sources' values,
+-- 1 for one outside: 4, then 1 + 4 + 3, 2 + 4 + 3, 3 + 9 + 8 + 2, and so on.
+unfoldable pub fourPlan : Bytes
+fourPlan =
+    lines (
+    "    16     5    11     3    14"
+    ∷ "     0     0     0     2     4"
+    ∷ "     1     1     0     2     8"
+    ∷ "     2     1     1     3     9"
+    ∷ "     3     2     1     3    22"
+    ∷ "     4     1     2     2    11"
+    ∷ "     5     2     2     2    26"
+    ∷ "     6     2     3     3    28"
+    ∷ "     7     3     3     3    84"
+    ∷ "     8     1     4     0    15"
+    ∷ "     9     2     5     2    34"
+    ∷ "    10     2     6     0    36"
+    ∷ "    11     3     7     2   104"
+    ∷ "    12     2     8     0    40"
+    ∷ "    13     3     9     2   114"
+    ∷ "    14     3    10     0   119"
+    ∷ "    15     4     0     2   436"
+    ∷ [])
+
+-- Four directions of width 2. The time vector is (1,0,0,0), so the projection of (a,x,y,z) is
+-- (0,x,y,z), and those of the dependences are (0,-2,0,0), (0,0,1,0), (0,0,0,1): r is 1, the classes
+-- are those of even and of odd x, q = 0 for x = 0, 1 and -1 for x = 2, 3, b = y, second b = z, and
+-- (a,x,y,z) is in block 4x + 2y + z. Three bits go to q, b and second b, a fourth to the class, and
+-- then none can take one. Parts of q = -1, 0 are 0, 1.
+unfoldable pub fourWide : ℕ → LoopNest
+fourWide c = nestWith (1 ∷ 3 ∷ 1 ∷ 1 ∷ []) (vector (1 ∷ 0 ∷ 0 ∷ 0 ∷ []))
+    ((pos 1 ∷ negℤ (pos 2) ∷ pos 0 ∷ pos 0 ∷ []) ∷ vector (1 ∷ 0 ∷ 1 ∷ 0 ∷ []) ∷ vector (1 ∷ 0 ∷ 0 ∷ 1 ∷ []) ∷ []) c
 
 -- the nest of document 01's listing, with these boundary values
 unfoldable pub listedWith : List ℕ → LoopNest
@@ -267,6 +331,32 @@ table =
           ∷ [])
           ∷ [];
     }
+    -- four loops (document 02, U11)
+    ∷ record {
+      nest = fourLoops 2;
+      facts =
+          answer 0 ∷ iterationsAre 16 ∷ stepsAre 5 ∷ groupSizeIs 4
+          ∷ groupingVectorIs (vector (0 ∷ 0 ∷ 0 ∷ 1 ∷ [])) ∷ chosenAre 3 ∷ classesAre 1 ∷ projectedPoints 15
+          ∷ blocksAre 11 ∷ messagesAre 14 ∷ printed fourText fourPlan ∷ [];
+    }
+    ∷ record {
+      nest = fourLoops 6;
+      facts = answer 0 ∷ blockProcessors (4 ∷ 6 ∷ 5 ∷ 7 ∷ 0 ∷ 4 ∷ 0 ∷ 4 ∷ 0 ∷ 4 ∷ 0 ∷ []) ∷ [];
+    }
+    ∷ record {
+      nest = fourWide 3;
+      facts =
+          answer 0 ∷ iterationsAre 32 ∷ stepsAre 2 ∷ groupSizeIs 1 ∷ chosenAre 3 ∷ classesAre 2
+          ∷ blockProcessors (4 ∷ 5 ∷ 6 ∷ 7 ∷ 4 ∷ 5 ∷ 6 ∷ 7 ∷ 0 ∷ 1 ∷ 2 ∷ 3 ∷ 0 ∷ 1 ∷ 2 ∷ 3 ∷ []) ∷ [];
+    }
+    ∷ record {
+      nest = fourWide 6;
+      facts = blockProcessors (8 ∷ 10 ∷ 12 ∷ 14 ∷ 9 ∷ 11 ∷ 13 ∷ 15 ∷ 0 ∷ 2 ∷ 4 ∷ 6 ∷ 1 ∷ 3 ∷ 5 ∷ 7 ∷ []) ∷ [];
+    }
+    -- 8 x 8 x 8 x 8 iterations, and one index more; five loops, which a nest has no place for
+    ∷ record { nest = nestWith (7 ∷ 7 ∷ 7 ∷ 7 ∷ []) (vector (1 ∷ 1 ∷ 1 ∷ 1 ∷ [])) (vector (0 ∷ 0 ∷ 0 ∷ 1 ∷ []) ∷ []) 0; facts = answer 0 ∷ [] }
+    ∷ record { nest = nestWith (7 ∷ 7 ∷ 7 ∷ 8 ∷ []) (vector (1 ∷ 1 ∷ 1 ∷ 1 ∷ [])) (vector (0 ∷ 0 ∷ 0 ∷ 1 ∷ []) ∷ []) 0; facts = answer 6 ∷ [] }
+    ∷ record { nest = withShape (one 0) (pos 5) (pos 1) (pos 0); facts = answer 2 ∷ [] }
     -- a block for each part of one direction (document 02, U5)
     ∷ record {
       nest = rowOf64;
@@ -306,9 +396,9 @@ unfolding any all first place firstsAfter firsts count repeats tab greatest firs
     divides makesWhole multiplier groupSize leastZ distinctProducts step stepNumber pivot clear remainder mayGroup
     groupingVector extend chosenVectors chosenCount latest coefficients left isCombination frame directions
     difference sameClass coordinates seeds eqG quotients classNumber group blocks blockNumber stepsOf stepCount
-    frameOf groupsOf blocksOf blockCount inOrder greatestZ direction undealt takesBit withBit noDirection nextTurn
+    frameOf groupsOf blocksOf blockCount orderIn greatestZ directionIn undealtIn takesBit withBit noDirection nextTurn
     dealBit dealBits dealt gray partOf joined processor directionsOf processorsOf processorCount crosses isMessage
     total messageCount sourceValue madeOf loop sequential weightedSum ruleOf valuesOf countsOf rowOf planLines
-    planText listing eqN below isSome pairs says vector nestWith L1 L2 two one ungrouped uneven rowOf64 grayCodes
+    planText listing eqN below isSome pairs says vector nestWith L1 L2 two one ungrouped uneven fourLoops fourText fourPlan fourWide rowOf64 grayCodes
     listedWith listed listedText listedPlan apart apartText apartPlan table flatMap zipWith
 examples-hold = refl

@@ -1,7 +1,7 @@
 // The entries on numbers and slices, for callers in C and Rust, as a static library.
 // c/rowlock.h has their prototypes, and says what the pointers have to be.
 //
-// A nest is lent as its 52 numbers. What an entry answers beside its number (counts, lengths, a
+// A nest is lent as its 63 numbers. What an entry answers beside its number (counts, lengths, a
 // span, a nest that was read) is stored through a reference of its own, zeros where the call is
 // refused: it is a part of the answer. `rows::row` answers a part of a lent table, which C cannot
 // take: `rowlock_locate` says where that part lies.

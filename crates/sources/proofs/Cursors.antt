@@ -96,6 +96,10 @@ module _ (s : LoopNest) (ok : refusal s ≡ 0) where
       (λ (h : length (pointsOf s) ≤ k). subst (λ (z : ℤ). natAbs z ≤ maxKey) (sym (List·getD-eq-default (keysOf s) (pos 0) {n = k} (omega (arith, keys-length s)))) zero-le)
       (below-or-not k (length (pointsOf s)))
 
+  -- so it is below 2^52
+  pub keys-below : (k : ℕ) → natAbs (getD (keysOf s) k (pos 0)) < 2 ^ 52
+  keys-below k = omega (arith, keys-most k)
+
   -- in the array of distances
   pub distance-is : (i : ℕ) → i < countOf s → getD (padded maxDependences (distancesOf s)) i (pos 0) ≡ key (dependence s i)
   unfolding distancesOf

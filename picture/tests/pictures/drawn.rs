@@ -1,4 +1,5 @@
-//! What is drawn of plans of one, two and three loops, small and large.
+//! What is drawn of plans of one, two and three loops, small and large, and what holds of the lines
+//! of any plan.
 
 use crate::xml::{self, Node};
 use crate::{drawn, plan, second_plan, text, P2_LISTING, P2_SHEET};
@@ -7,7 +8,7 @@ const P1_SHEET: &str = include_str!("../../../examples/P1.txt");
 const P4_SHEET: &str = include_str!("../../../examples/P4-cube-2.txt");
 
 /// The squares of a picture, in the order of their ranks.
-fn squares(picture: &Node) -> Vec<&Node> {
+pub fn squares(picture: &Node) -> Vec<&Node> {
     let mut iterations = picture.classed("iteration");
     let rank = |node: &&Node| {
         let said = node.texts("title")[0];
@@ -19,13 +20,13 @@ fn squares(picture: &Node) -> Vec<&Node> {
 }
 
 /// Left, top, right and bottom of a square.
-fn sides(square: &Node) -> [f64; 4] {
+pub fn sides(square: &Node) -> [f64; 4] {
     let (x, y) = (square.number("x"), square.number("y"));
     [x, y, x + square.number("width"), y + square.number("height")]
 }
 
 /// The points that a path's data names: its start, its bends, its end.
-fn points(path: &Node) -> Vec<(f64, f64)> {
+pub fn points(path: &Node) -> Vec<(f64, f64)> {
     let numbers: Vec<f64> = path
         .get("d")
         .split(|c: char| c.is_ascii_alphabetic() || c == ' ')
@@ -59,7 +60,12 @@ fn along(line: &Node) -> Vec<(f64, f64)> {
 fn is_in_text(text: &Node, (x, y): (f64, f64)) -> bool {
     let size = if text.get("font-size").is_empty() { 12.0 } else { text.number("font-size") };
     let width = 0.62 * size * text.text.chars().count() as f64;
-    let right = text.number("x") + if text.get("text-anchor") == "end" { 0.0 } else { width / 2.0 };
+    let behind = match text.get("text-anchor") {
+        "end" => 0.0,
+        "start" => width,
+        _ => width / 2.0,
+    };
+    let right = text.number("x") + behind;
     let base = text.number("y");
     right - width < x && x < right && base - size < y && y < base
 }
@@ -76,14 +82,14 @@ fn beside(square: &Node, point: (f64, f64)) -> bool {
 }
 
 /// Whether a line runs over a square, its own ends' squares included.
-fn runs_over_a_square(picture: &Node, line: &Node) -> bool {
+pub fn runs_over_a_square(picture: &Node, line: &Node) -> bool {
     let squares = squares(picture);
     let is_covered = |point| squares.iter().any(|square| is_in(square, -5.0, point));
     along(line).into_iter().any(is_covered)
 }
 
 /// The ranks of the squares that each line of a class leads from and to.
-fn joined(picture: &Node, class: &str) -> Vec<(usize, usize)> {
+pub fn joined(picture: &Node, class: &str) -> Vec<(usize, usize)> {
     let squares = squares(picture);
     let rank_beside = |point| {
         let found: Vec<usize> =
@@ -303,7 +309,7 @@ fn one_iteration_alone() {
 
 #[test]
 fn many_iterations_are_drawn_without_labels() {
-    for limits in [&[&[0, 63][..], &[0, 63]][..], &[&[0, 15], &[0, 15], &[0, 15]]] {
+    for limits in [&[[0, 63]; 2][..], &[[0, 15]; 3], &[[0, 7]; 4]] {
         let depth = limits.len();
         let mut innermost = vec![0; depth];
         innermost[depth - 1] = 1;
@@ -322,7 +328,7 @@ fn many_iterations_are_drawn_without_labels() {
 }
 
 /// A nest of these limits with dependences of one step in each loop.
-fn with_unit_dependences(limits: &[[i64; 2]], cube: i64) -> String {
+pub fn with_unit_dependences(limits: &[[i64; 2]], cube: i64) -> String {
     let depth = limits.len();
     let mut lines = vec![vec![depth as i64, depth as i64, cube]];
     lines.extend(limits.iter().map(|limits| limits.to_vec()));
@@ -345,13 +351,24 @@ fn labels_stay_as_long_as_they_fit() {
     assert_eq!(labels(&[[0, 37]]), 0);
     assert_eq!(labels(&[[0, 3], [0, 24], [0, 3]]), 2 * 400);
     assert_eq!(labels(&[[0, 3], [0, 25], [0, 3]]), 0);
+    assert_eq!(labels(&[[0, 3], [0, 3], [0, 4], [0, 4]]), 2 * 400);
+    assert_eq!(labels(&[[0, 3], [0, 3], [0, 4], [0, 5]]), 0);
 }
 
 #[test]
 fn lines_from_band_to_band_cross_no_title_and_no_index() {
-    for limits in [[[0, 11], [0, 3], [0, 3]], [[-7, 22], [0, 4], [0, 0]], [[0, 63], [0, 7], [0, 7]]]
-    {
-        let picture = drawn(&[second_plan("bands", &with_unit_dependences(&limits, 3))]);
+    let bands: [&[[i64; 2]]; 8] = [
+        &[[0, 11], [0, 3], [0, 3]],
+        &[[-7, 22], [0, 4], [0, 0]],
+        &[[0, 63], [0, 7], [0, 7]],
+        &[[0, 1]; 4],
+        &[[-1000, -998], [-1000, -999], [-1000, -997], [-1000, -996]],
+        &[[0, 1], [0, 8], [0, 1], [0, 2]],
+        &[[0, 199], [0, 1], [0, 1], [0, 1]],
+        &[[0, 1], [0, 7], [0, 7], [0, 7]],
+    ];
+    for limits in bands {
+        let picture = drawn(&[second_plan("bands", &with_unit_dependences(limits, 3))]);
         let texts = picture.classed("axes")[0].tagged("text");
         let lines = picture.classed("messages")[0].tagged("path");
         let between: Vec<&&Node> = lines.iter().filter(|line| points(line).len() > 4).collect();
@@ -361,14 +378,22 @@ fn lines_from_band_to_band_cross_no_title_and_no_index() {
             assert!(!along(line).into_iter().any(crossed), "{limits:?}: {}", line.get("d"));
         }
     }
-    let sheet = with_unit_dependences(&[[0, 11], [0, 3], [0, 3]], 3);
-    let picture = drawn(&[second_plan("bands", &sheet)]);
-    assert_eq!(
-        joined(&picture, "messages").len(),
-        picture.classed("messages")[0].tagged("path").len()
-    );
-    for line in picture.classed("messages")[0].tagged("path") {
-        assert!(!runs_over_a_square(&picture, line), "{}", line.get("d"));
+}
+
+#[test]
+fn lines_from_band_to_band_end_at_their_iterations_and_run_over_no_other() {
+    let bands: [&[[i64; 2]]; 3] = [
+        &[[0, 11], [0, 3], [0, 3]],
+        &[[0, 2], [0, 1], [0, 3], [0, 4]],
+        &[[0, 1], [0, 8], [0, 1], [0, 2]],
+    ];
+    for limits in bands {
+        let picture = drawn(&[second_plan("bands", &with_unit_dependences(limits, 3))]);
+        let lines = picture.classed("messages")[0].tagged("path");
+        assert_eq!(joined(&picture, "messages").len(), lines.len());
+        for line in lines {
+            assert!(!runs_over_a_square(&picture, line), "{limits:?}: {}", line.get("d"));
+        }
     }
 }
 

@@ -2,6 +2,7 @@
 //! from document 01, or listed by the second planner; and what is refused.
 
 mod drawn;
+mod four_loops;
 mod program;
 mod refused;
 mod xml;

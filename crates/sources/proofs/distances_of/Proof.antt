@@ -53,7 +53,7 @@ key-of-requires c κs =
     let s = t .args .t1 in
     let n = depth (d .before .before .before .before) in
     let i = turn d in
-    let l : length (s .dependences) ≡ 24 = search needs in (
+    let l : length (s .dependences) ≡ maxDepth * maxDependences = search needs in (
       omega (arith, n, depth-is s (t .pre) .1),
       omega (arith, n, depth-is s (t .pre) .1, l, i .1),
       λ k h. let b : k < depthOf s = omega (arith, n, h) in let q = component-size s (t .pre) (d .before .loop .i) k (i .0) b in omega (arith, q),

@@ -9,7 +9,7 @@ use Rattle.integers.proofs.Bounds.{told}
 use Rattle.nest.specs.Nest.{toℕ, countOf}
 use Rattle.nest.proofs.Accepted.{count-is}
 use Rattle.execution.proofs.EntryLaws.{no-rank, no-dependence, delivers-from}
-use Rattle.foreign.specs.Numbers.{nestIn}
+use Rattle.foreign.specs.Numbers.{numberCount, nestIn}
 use Rattle.foreign.proofs.Lent.{count-lent}
 use Rattle.foreign.proofs.moves.deliver_in.Statement.{statement}
 use Rattle.foreign.proofs.moves.deliver_in.Tie as tie
@@ -46,7 +46,7 @@ source-in-requires : tie.Need-source-in-requires
 source-in-requires c κs =
     let e = c .before in
     let t = e .before .before .before .before .before .before .before in
-    let l : length (t .args .numbers .now) ≡ 52 = search needs in
+    let l : length (t .args .numbers .now) ≡ numberCount = search needs in
     (l, (t .pre .0 .0, t .pre .0 .1, e .before .before .before .if1 .left, there e))
 
 deliver-from-requires : tie.Need-deliver-from-requires

@@ -1,30 +1,32 @@
 -- `numbers_of` answers the numbers of a nest, part by part. Assumes nothing.
 use borrow.Author.Needs.{needs}
 use mathlib.Core.Path.{_≡_, sym}
+use Prim.Native.Nat.{_*_}
 use native.Mathlib.Omega.{arith}
 use lib.ListN.{length}
 use Rattle.integers.proofs.Bounds.{told}
+use Rattle.nest.specs.Nest.{maxDepth, maxDependences}
 use Rattle.foreign.proofs.Copying.{copied-nest}
 use Rattle.foreign.proofs.nests.numbers_of.Statement.{statement}
 use Rattle.foreign.proofs.nests.numbers_of.Tie as tie
 
 -- how many places the nest's arrays have
-lower-array : (c : tie.Start) → length (c .args .s .lower) ≡ 3
+lower-array : (c : tie.Start) → length (c .args .s .lower) ≡ maxDepth
 lower-array c = search needs
 
-upper-array : (c : tie.Start) → length (c .args .s .upper) ≡ 3
+upper-array : (c : tie.Start) → length (c .args .s .upper) ≡ maxDepth
 upper-array c = search needs
 
-time-array : (c : tie.Start) → length (c .args .s .time) ≡ 3
+time-array : (c : tie.Start) → length (c .args .s .time) ≡ maxDepth
 time-array c = search needs
 
-dependences-array : (c : tie.Start) → length (c .args .s .dependences) ≡ 24
+dependences-array : (c : tie.Start) → length (c .args .s .dependences) ≡ maxDepth * maxDependences
 dependences-array c = search needs
 
-boundaries-array : (c : tie.Start) → length (c .args .s .boundaries) ≡ 8
+boundaries-array : (c : tie.Start) → length (c .args .s .boundaries) ≡ maxDependences
 boundaries-array c = search needs
 
-weights-array : (c : tie.Start) → length (c .args .s .weights) ≡ 8
+weights-array : (c : tie.Start) → length (c .args .s .weights) ≡ maxDependences
 weights-array c = search needs
 
 slice-aggregate-copy : tie.Need-slice-aggregate-copy

@@ -1,11 +1,12 @@
 -- `source_in` meets its contract. Assumes nothing.
 use borrow.Author.Needs.{needs}
 use mathlib.Core.Path.{_≡_, sym, ap, _∙_}
+use Prim.Native.Nat.{_*_}
 use lib.IntN.{pos}
 use lib.ListN.{getD, take, drop}
 use Rattle.integers.proofs.Bounds.{told}
-use Rattle.nest.specs.Nest.{toℕ, depthOf}
-use Rattle.foreign.specs.Numbers.{nestIn}
+use Rattle.nest.specs.Nest.{toℕ, depthOf, maxDepth, maxDependences}
+use Rattle.foreign.specs.Numbers.{upperFrom, dependencesFrom, nestIn}
 use Rattle.foreign.proofs.Lent.{asked, answered, lower-lent, upper-lent, dependences-lent, lengths-lent, depth-lent}
 use Rattle.foreign.proofs.nests.source_in.Statement.{statement}
 use Rattle.foreign.proofs.nests.source_in.Tie as tie
@@ -58,7 +59,7 @@ source-rank-requires c κs =
     let h = s .pre .0 in
     let p = s .pre .1 in
     let l = lengths-lent xs in
-    asked (nestIn xs) (a .k) (a .i) (p .3) (take 3 (drop 3 xs)) (take 3 (drop 6 xs)) (take 24 (drop 12 xs)) (d .to-size .result) (lower-lent xs h) (upper-lent xs h) (dependences-lent xs h) (depth-is d) (a .iterations) (p .0) (l .0)
+    asked (nestIn xs) (a .k) (a .i) (p .3) (take maxDepth (drop 3 xs)) (take maxDepth (drop upperFrom xs)) (take (maxDepth * maxDependences) (drop dependencesFrom xs)) (d .to-size .result) (lower-lent xs h) (upper-lent xs h) (dependences-lent xs h) (depth-is d) (a .iterations) (p .0) (l .0)
     (l .1) (l .2) (p .1) (p .2)
 
 returns : tie.Need-returns
@@ -68,7 +69,7 @@ returns c =
     let a = s .args in
     let xs = a .numbers .now in
     let h = s .pre .0 in
-    answered (nestIn xs) (a .k) (a .i) (s .pre .1 .3) (take 3 (drop 3 xs)) (take 3 (drop 6 xs)) (take 24 (drop 12 xs)) (d .to-size .result) (lower-lent xs h) (upper-lent xs h) (dependences-lent xs h) (depth-is d)
+    answered (nestIn xs) (a .k) (a .i) (s .pre .1 .3) (take maxDepth (drop 3 xs)) (take maxDepth (drop upperFrom xs)) (take (maxDepth * maxDependences) (drop dependencesFrom xs)) (d .to-size .result) (lower-lent xs h) (upper-lent xs h) (dependences-lent xs h) (depth-is d)
     (c .source-rank .result) (c .source-rank .ensures)
 
 pub source-in-spec : {M : Type 1} → statement M

@@ -1,12 +1,12 @@
 -- `source_of` meets its contract. Assumes nothing.
 use mathlib.Core.Path.{_≡_, sym, _∙_, ap}
-use Prim.Native.Nat.{_<_}
+use Prim.Native.Nat.{_*_, _<_}
 use native.Mathlib.Omega.{arith}
 use lib.ListN.{length}
 use borrow.Author.Needs.{needs}
 use Rattle.integers.proofs.Bounds.{told}
 use Rattle.nest.specs.declared.LoopNest.{LoopNest}
-use Rattle.nest.specs.Nest.{toℕ, part, padded, depthOf, dependenceAt, maxDepth}
+use Rattle.nest.specs.Nest.{toℕ, part, padded, depthOf, dependenceAt, maxDepth, maxDependences}
 use Rattle.nest.specs.Points.{source}
 use Rattle.nest.proofs.Accepted.{depth-is, count-is, component-size}
 use Rattle.nest.proofs.Sources.{index-size}
@@ -30,7 +30,7 @@ difference-requires c κs =
     let n = depth (c .before .before .before) in
     let d = depth-is (t .args .t1) (t .pre .0) .1 in
     let m = count-is (t .args .t1) (t .pre .0) .1 in
-    let l : length (t .args .t1 .dependences) ≡ 24 = search needs in (
+    let l : length (t .args .t1 .dependences) ≡ maxDepth * maxDependences = search needs in (
       (omega (arith, n, d), omega (arith, n, d, m, l, t .pre .2)),
       λ k h.
           let b : k < depthOf (t .args .t1) = omega (arith, n, h) in

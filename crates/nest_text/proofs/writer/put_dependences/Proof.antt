@@ -8,7 +8,7 @@ use native.Mathlib.Omega.{arith}
 use lib.IntN.{pos}
 use lib.ListN.{length, getD}
 use Rattle.integers.specs.Lists.{tab}
-use Rattle.nest.specs.Nest.{part, dependenceAt}
+use Rattle.nest.specs.Nest.{part, dependenceAt, maxDepth}
 use Rattle.nest_text.specs.Text.{lineLength, line}
 use Rattle.nest_text.specs.Stored.{Stored}
 use native.Mathlib.Nat.{mul-le-mul-left, mul-suc}
@@ -41,7 +41,7 @@ next-row w i = ap (λ k. w * k) (add-one i) ∙ mul-suc w i
 -- the bytes of dependence i
 row-length : (a : tie.Start Inv-loop μ-loop) (i : ℕ) → i < a .args .m → length (line (dependenceAt (a .args .t3) (a .args .n) i)) ≡ lineLength (a .args .n)
 unfolding part
-row-length a i h = line-length (λ k. getD (a .args .t3) (i * 3 + k) (pos 0)) (a .args .n) (a .pre .1 .1 .1 i h)
+row-length a i h = line-length (λ k. getD (a .args .t3) (i * maxDepth + k) (pos 0)) (a .args .n) (a .pre .1 .1 .1 i h)
 
 loop-holds : tie.Need-loop-holds Inv-loop μ-loop
 unfolding tab flatMap

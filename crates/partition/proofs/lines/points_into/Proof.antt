@@ -14,13 +14,13 @@ use Rattle.integers.specs.Lists.{tab}
 use Rattle.integers.proofs.Lists.{tab-list, map-tab}
 use Rattle.integers.specs.Vector.{Vector, AllWithin}
 use Rattle.integers.proofs.Vector.{all-wider, getD-within}
-use Rattle.nest.specs.Nest.{part, padded, maxLimit}
+use Rattle.nest.specs.Nest.{padded, maxDepth, maxLimit}
 use Rattle.nest.proofs.Padding.{length-padded}
 use Rattle.numbering.specs.Tables.{putRow}
 use Rattle.sources.specs.Keys.{digits, maxKey}
 use Rattle.sources.proofs.Digits.{length-digits}
 use Rattle.partition.specs.Heads.{pointsBy}
-use Rattle.partition.proofs.NestVectors.{Filled, filled-start, filled-more, filled-end, padded-within, padded-more}
+use Rattle.partition.proofs.NestVectors.{Filled, filled-start, filled-more, filled-end, padded-within}
 use Rattle.partition.proofs.lines.points_into.Statement.{statement}
 use Rattle.partition.proofs.lines.points_into.Tie as tie
 
@@ -45,7 +45,7 @@ abbrev rows-at : Start → ℕ → Vector
 rows-at d l = row-of (d .args .keys .now) (d .args .n) (d .args .heads .now) l
 
 -- how long it is without the zeros
-short : (d : Start) (k : ℕ) → length (digits (d .args .n) (getD (d .args .keys .now) k (pos 0))) ≤ 3
+short : (d : Start) (k : ℕ) → length (digits (d .args .n) (getD (d .args .keys .now) k (pos 0))) ≤ maxDepth
 short d k = omega (arith, length-digits (d .args .n) (getD (d .args .keys .now) k (pos 0)), d .pre .0 .0)
 
 row-length : (d : Start) (l : ℕ) → length (rows-at d l) ≡ 4
@@ -55,10 +55,6 @@ row-within : (d : Start) (l : ℕ) → l < d .args .count → AllWithin maxLimit
 row-within d l h =
     let v = digits (d .args .n) (getD (d .args .keys .now) (getD (d .args .heads .now) l 0) (pos 0)) in
     padded-within maxLimit 4 (length v) v refl (λ i b. getD-within maxLimit v i (d .pre .1 l h .within))
-
--- what `four_of` makes of the point
-row-is : (d : Start) (l : ℕ) (point row : Vector) → point ≡ padded 3 (digits (d .args .n) (getD (d .args .keys .now) (getD (d .args .heads .now) l 0) (pos 0))) → row ≡ padded 4 (part point 0 3) → row ≡ rows-at d l
-row-is d l point row p q = q ∙ ap (λ (v : Vector). padded 4 (part v 0 3)) p ∙ padded-more (digits (d .args .n) (getD (d .args .keys .now) (getD (d .args .heads .now) l 0) (pos 0))) (short d (getD (d .args .heads .now) l 0))
 
 -- all rows
 rows-all : (keys : List ℤ) (n : ℕ) (heads : List ℕ) (count : ℕ) → count ≤ length heads → tab (row-of keys n heads) count ≡ pointsBy keys n (take count heads)
@@ -99,38 +95,31 @@ vector-at-requires c κs =
     let h = c .before .before .loop-test .taken in
     (subst (λ (z : ℤ). natAbs z ≤ maxKey) (sym (key-read l h)) (at l .pre .1 (l .loop .l) h .key-small), at l .pre .0 .0)
 
-slice-aggregate-four-of : tie.Need-slice-aggregate-four-of Inv-loop μ-loop
-slice-aggregate-four-of c = search needs
-
-four-of-requires : tie.Need-four-of-requires Inv-loop μ-loop
-four-of-requires c κs = (lit≤ tt, omega arith)
-
 -- the row of this turn
-here : (c : tie.After-four-of Inv-loop μ-loop) → c .four-of .result ≡ rows-at (at (c .before .before .before .before .before .before)) (c .before .before .before .before .before .before .loop .l)
+here : (c : tie.After-vector-at Inv-loop μ-loop) → c .vector-at .result ≡ rows-at (at (c .before .before .before .before)) (c .before .before .before .before .loop .l)
 here c =
-    let l = c .before .before .before .before .before .before in
-    let v = c .before .before .vector-at in
-    row-is (at l) (l .loop .l) (v .result) (c .four-of .result) (v .ensures ∙ ap (λ (z : ℤ). padded 3 (digits (at l .args .n) z)) (key-read l (c .before .before .before .before .before .loop-test .taken))) (c .four-of .ensures)
+    let l = c .before .before .before .before in
+    c .vector-at .ensures ∙ ap (λ (z : ℤ). padded 4 (digits (at l .args .n) z)) (key-read l (c .before .before .before .loop-test .taken))
 
 put-row-requires : tie.Need-put-row-requires Inv-loop μ-loop
 put-row-requires c κs =
-    let l = c .before .before .before .before .before .before .before in
+    let l = c .before .before .before .before .before in
     let d = at l in
-    let h = c .before .before .before .before .before .before .loop-test .taken in
+    let h = c .before .before .before .before .loop-test .taken in
     let e = here (c .before) in
     ((omega (arith, l .loop .inv .1 .size, d .pre .0 .4, h), omega (arith, h, d .pre .0 .2)), subst (AllWithin 1000000000) (sym e) (all-wider maxLimit 1000000000 (rows-at d (l .loop .l)) (lit≤ tt) (row-within d (l .loop .l) h)))
 
 add-l : tie.Need-add-l Inv-loop μ-loop
-add-l c = let l = c .before .before .before .before .before .before .before .before .before in omega (arith, c .before .before .before .before .before .before .before .before .loop-test .taken, at l .pre .0 .2)
+add-l c = let l = c .before .before .before .before .before .before .before in omega (arith, c .before .before .before .before .before .before .loop-test .taken, at l .pre .0 .2)
 
 loop-less : tie.Need-loop-less Inv-loop μ-loop
-loop-less c = omega (arith, c .before .before .before .before .before .before .before .before .loop-test .taken)
+loop-less c = omega (arith, c .before .before .before .before .before .before .loop-test .taken)
 
 loop-again : tie.Need-loop-again Inv-loop μ-loop
 loop-again c =
-    let l = c .before .before .before .before .before .before .before .before .before in
+    let l = c .before .before .before .before .before .before .before in
     let d = at l in
-    let h = c .before .before .before .before .before .before .before .before .loop-test .taken in
+    let h = c .before .before .before .before .before .before .loop-test .taken in
     let f = row-of (d .args .keys .now) (d .args .n) (d .args .heads .now) in
     let k = l .loop .l in (
       omega (arith, h),
@@ -163,8 +152,6 @@ points-into-spec =
     mul-vector-at
     shared-slice-copy-out-vector-at
     vector-at-requires
-    slice-aggregate-four-of
-    four-of-requires
     put-row-requires
     add-l
     loop-less

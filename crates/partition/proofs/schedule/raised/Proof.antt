@@ -1,7 +1,7 @@
 -- `raised` meets its contract. Assumes nothing.
 use mathlib.Core.Path.{_≡_, sym, ap, subst, _∙_}
-use mathlib.Core.List.{List, [], _∷_}
-use Prim.Native.Nat.{ℕ, _≤_}
+use mathlib.Core.List.{[], _∷_}
+use Prim.Native.Nat.{_*_, _≤_}
 use native.Mathlib.Omega.{arith}
 use lib.Dec.{T}
 use lib.IntN.{ℤ, pos, natAbs, _+ℤ_}
@@ -24,7 +24,7 @@ raised-is c = read (c .args .product ∷ []) (maxProduct ∷ []) (var 0 ⊕ con 
 above : (c : tie.Start) → pos 0 ≤ℤ (c .args .product +ℤ pos maxProduct)
 above c = omega (ints, c .pre, sum (c .args .product) (pos maxProduct), sizes (c .args .product))
 
-few : (c : tie.Start) → natAbs (c .args .product +ℤ pos maxProduct) ≤ 96000
+few : (c : tie.Start) → natAbs (c .args .product +ℤ pos maxProduct) ≤ 2 * maxProduct
 few c = omega (ints, c .pre, sum (c .args .product) (pos maxProduct), sizes (c .args .product), sizes (c .args .product +ℤ pos maxProduct))
 
 add-result : tie.Need-add-result
