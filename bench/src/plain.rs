@@ -2,7 +2,7 @@
 //! tables, nothing proved. It follows document 01, its source document 000, and document 02, U1 for
 //! boundary values, U2 for steps and U11 for the fourth loop. It is compiled for N loops, N being 4
 //! for nests of four and 3 for all others, which have loops of one iteration behind those that they
-//! have: taken as nests of four they would take up to two fifths longer.
+//! have: taken as nests of four they would take longer.
 
 use std::array;
 use std::collections::HashMap;
