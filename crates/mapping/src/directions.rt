@@ -7,7 +7,7 @@ ghost use Prim.Native.Nat.{_<_, _≤_};
 ghost use Rattle.nest.specs.Nest.{maxDepth, maxIterations};
 ghost use Rattle.mapping.specs.GroupNumbers.{columnOf, RowsInSpan, column, spanOf, directionsIn, held, noBits};
 
-// Numbers a row of the table of groups: class, q, b, and one that is not read here.
+// Numbers a row of the table of groups: class, q, and the coordinates along the auxiliary vectors.
 pub const ROW: usize = numbering::COMPONENTS;
 
 // A direction with no bits: its least value and its width.
@@ -35,7 +35,7 @@ fn reach_in(rows: &[i64], j: usize, count: usize) -> Reach
     }
 }
 
-// The directions q, b, class with no bits: the least value and the width of each.
+// The directions, the class last, with no bits: the least value and the width of each.
 pub struct Spans {
     pub least: [i64; LoopNest::MAX_DEPTH],
     pub width: [u64; LoopNest::MAX_DEPTH],

@@ -50,8 +50,8 @@ turned x v =
     (tab-list (λ j. getD (x ∷ v) (nextTurn (suc (length v)) j) (pos 0)) v (pos 0) (length v) refl (λ j h. ap (λ (i : ℕ). getD (x ∷ v) i (pos 0)) (let e : j + 1 ≡ suc j = omega arith in turn-next (suc (length v)) j (omega arith) ∙ e)))
     (turn-first (suc (length v)) (length v) (omega arith))
 
--- the coordinates along the vectors that are chosen, in the order of their choice, and 0 along the others
-along-padded : (count : ℕ) (x y z : ℤ) → count ≤ 3 → Fill count x y z → padded 3 (reverse (pick count x y z)) ≡ x ∷ y ∷ z ∷ []
+-- what the code's three places for chosen vectors hold: the coordinates in the order of choice, and 0 where no vector is chosen
+along-padded : (count : ℕ) (x y z : ℤ) → count ≤ 3 → Fill count x y z → padded (maxDepth - 1) (reverse (pick count x y z)) ≡ x ∷ y ∷ z ∷ []
 unfolding padded
 along-padded zero x y z h f = λ i. sym (f .0) i ∷ sym (f .1) i ∷ sym (f .2) i ∷ []
 along-padded (suc zero) x y z h f = λ i. x ∷ sym (f .0) i ∷ sym (f .1) i ∷ []
