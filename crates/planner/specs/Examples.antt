@@ -215,6 +215,10 @@ unfoldable pub fourWide : ℕ → LoopNest
 fourWide c = nestWith (1 ∷ 3 ∷ 1 ∷ 1 ∷ []) (vector (1 ∷ 0 ∷ 0 ∷ 0 ∷ []))
     ((pos 1 ∷ negℤ (pos 2) ∷ pos 0 ∷ pos 0 ∷ []) ∷ vector (1 ∷ 0 ∷ 1 ∷ 0 ∷ []) ∷ vector (1 ∷ 0 ∷ 0 ∷ 1 ∷ []) ∷ []) c
 
+-- 8 x 8 x 8 iterations for each of u + 1 indices of the innermost loop
+unfoldable pub fourFull : ℕ → LoopNest
+fourFull u = nestWith (7 ∷ 7 ∷ 7 ∷ u ∷ []) (vector (1 ∷ 1 ∷ 1 ∷ 1 ∷ [])) (vector (0 ∷ 0 ∷ 0 ∷ 1 ∷ []) ∷ []) 0
+
 -- the nest of document 01's listing, with these boundary values
 unfoldable pub listedWith : List ℕ → LoopNest
 listedWith values =
@@ -354,8 +358,8 @@ table =
       facts = blockProcessors (8 ∷ 10 ∷ 12 ∷ 14 ∷ 9 ∷ 11 ∷ 13 ∷ 15 ∷ 0 ∷ 2 ∷ 4 ∷ 6 ∷ 1 ∷ 3 ∷ 5 ∷ 7 ∷ []) ∷ [];
     }
     -- 8 x 8 x 8 x 8 iterations, and one index more; five loops, which a nest has no place for
-    ∷ record { nest = nestWith (7 ∷ 7 ∷ 7 ∷ 7 ∷ []) (vector (1 ∷ 1 ∷ 1 ∷ 1 ∷ [])) (vector (0 ∷ 0 ∷ 0 ∷ 1 ∷ []) ∷ []) 0; facts = answer 0 ∷ [] }
-    ∷ record { nest = nestWith (7 ∷ 7 ∷ 7 ∷ 8 ∷ []) (vector (1 ∷ 1 ∷ 1 ∷ 1 ∷ [])) (vector (0 ∷ 0 ∷ 0 ∷ 1 ∷ []) ∷ []) 0; facts = answer 6 ∷ [] }
+    ∷ record { nest = fourFull 7; facts = answer 0 ∷ [] }
+    ∷ record { nest = fourFull 8; facts = answer 6 ∷ [] }
     ∷ record { nest = withShape (one 0) (pos 5) (pos 1) (pos 0); facts = answer 2 ∷ [] }
     -- a block for each part of one direction (document 02, U5)
     ∷ record {
@@ -399,6 +403,7 @@ unfolding any all first place firstsAfter firsts count repeats tab greatest firs
     frameOf groupsOf blocksOf blockCount orderIn greatestZ directionIn undealtIn takesBit withBit noDirection nextTurn
     dealBit dealBits dealt gray partOf joined processor directionsOf processorsOf processorCount crosses isMessage
     total messageCount sourceValue madeOf loop sequential weightedSum ruleOf valuesOf countsOf rowOf planLines
-    planText listing eqN below isSome pairs says vector nestWith L1 L2 two one ungrouped uneven fourLoops fourText fourPlan fourWide rowOf64 grayCodes
+    planText listing eqN below isSome pairs says vector nestWith L1 L2 two one ungrouped uneven fourLoops fourText
+    fourPlan fourWide fourFull rowOf64 grayCodes
     listedWith listed listedText listedPlan apart apartText apartPlan table flatMap zipWith
 examples-hold = refl
