@@ -29,6 +29,7 @@ use Rattle.partition.specs.Partition.{noGroup, groupsOf}
 use Rattle.partition.proofs.Theorems.{chosen-bound, along-length}
 use Rattle.partition.proofs.Nests.{groups-length}
 use Rattle.mapping.specs.Mapping.{orderIn, directionIn, undealtIn, processor, directionsOf, processorsOf, processorsWith, gray, partOf, joined, Direction, takesBit, withBit, noDirection, Deal, nextTurn, dealBit, dealBits, dealt, directionAt}
+use Rattle.mapping.specs.GroupNumbers.{spanOf}
 use Rattle.mapping.proofs.Deals.{turn-next, turn-first, more}
 use Rattle.mapping.proofs.Arrays.{skipped, taken}
 use Rattle.mapping.proofs.Groups.{block-group, dealt-length, order-is}
@@ -202,10 +203,6 @@ order-size m g h =
     let e = length-padded m (reverse (g .along)) (omega (arith, length-reverse (g .along))) in
     ap length (order-is m g) ∙ length-append (padded m (reverse (g .along))) (pos (g .class) ∷ []) ∙ omega arith
 
--- a direction with these values and no bit
-abbrev spanning : List ℤ → Direction
-spanning vs = record { least = leastZ vs; width = toℕ (greatestZ vs -ℤ leastZ vs +ℤ pos 1); bits = 0 }
-
 -- zeros have no other extremes
 least-zeros : (bs : List Group) → leastZ (map (λ g. pos 0) bs) ≡ pos 0
 least-zeros [] = unfold leastZ in refl
@@ -237,13 +234,13 @@ module _ (m : ℕ) where
   module _ (bs : List Group) (few : (g : Group) → List·Memᴰ g bs → length (g .along) ≤ m) where
     -- a place of the longer list whose values stand at a place of the shorter one
     direction-same : (k j : ℕ) → ((g : Group) → length (g .along) ≤ m → getD (orderIn (suc (suc m)) g) k (pos 0) ≡ getD (orderIn (suc m) g) j (pos 0)) → directionIn (suc (suc m)) bs k ≡ directionIn (suc m) bs j
-    unfolding directionIn
-    direction-same k j e = ap spanning (map-members (λ g. getD (orderIn (suc (suc m)) g) k (pos 0)) (λ g. getD (orderIn (suc m) g) j (pos 0)) bs (λ g l. e g (few g l)))
+    unfolding directionIn spanOf
+    direction-same k j e = ap spanOf (map-members (λ g. getD (orderIn (suc (suc m)) g) k (pos 0)) (λ g. getD (orderIn (suc m) g) j (pos 0)) bs (λ g l. e g (few g l)))
 
     direction-single : directionIn (suc (suc m)) bs m ≡ single
-    unfolding directionIn toℕ
+    unfolding directionIn spanOf toℕ
     direction-single =
-        ap spanning (map-members (λ g. getD (orderIn (suc (suc m)) g) m (pos 0)) (λ g. pos 0) bs (λ g l. ap (λ (v : Vector). getD v m (pos 0)) (order-more g (few g l)) ∙ inserted-at (pos 0) (pos 0) m (orderIn (suc m) g) (omega (arith, order-size m g (few g l)))))
+        ap spanOf (map-members (λ g. getD (orderIn (suc (suc m)) g) m (pos 0)) (λ g. pos 0) bs (λ g l. ap (λ (v : Vector). getD v m (pos 0)) (order-more g (few g l)) ∙ inserted-at (pos 0) (pos 0) m (orderIn (suc m) g) (omega (arith, order-size m g (few g l)))))
         ∙ ap₂ (λ (l u : ℤ). let d : Direction = record { least = l; width = toℕ (u -ℤ l +ℤ pos 1); bits = 0 } in d) (least-zeros bs) (greatest-zeros bs)
 
     undealt-more : undealtIn (suc (suc m)) bs ≡ inserted m single (undealtIn (suc m) bs)
