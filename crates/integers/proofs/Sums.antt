@@ -85,6 +85,7 @@ module _ {A : Type 0} where
 
     -- and one element passes q alone
     pub count_fewer : (xs : List A) (x : A) → Memᴰ x xs → p x ≡ false → q x ≡ true → count p xs < count q xs
+    count_fewer [] x m f t = elim m [ ]
     count_fewer (y ∷ xs) x (mathlib.Core.List.Memᴰ.head e) f t =
         let z : p y ≡ false = ap p (sym e) ∙ f in
         let w : q y ≡ true = ap q (sym e) ∙ t in
