@@ -1,6 +1,8 @@
 // The run of a loop nest, move by move: a processor computes its next iteration, or a message is
 // delivered. specs/ has the rules, the reference machine and the claim about a whole list of
 // moves; proofs/ has its proof.
+#![tactic(auto)]
+
 mod finding;
 
 ghost use Rattle.std.specs.Prelude.{◌≡◌, ◌≤◌, ◌^◌, ◌<◌, length};
@@ -24,7 +26,7 @@ pub const IDLE_PROCESSOR: u8 = 17;
 pub const NO_SUCH_PLACE: u8 = 18;
 
 // A message, by the iteration that gets it and the dependence that it comes along.
-#[derive(Drop)]
+#[derive(Clone, Copy)]
 pub struct Delivery {
     pub rank: usize,
     pub dependence: usize,
@@ -32,27 +34,27 @@ pub struct Delivery {
 
 // A move: a processor computes its next iteration, or a message is delivered. Any
 // numbers may be asked for.
-#[derive(Drop)]
+#[derive(Clone, Copy)]
 pub enum Move {
     Compute(usize),
     Deliver(Delivery),
 }
 
 // What a caller asks for.
-#[derive(Drop)]
+#[derive(Clone, Copy)]
 pub struct Request {
     pub what: Move,
 }
 
 // The iteration that a compute took, and the value that it wrote.
-#[derive(Drop)]
+#[derive(Clone, Copy)]
 pub struct Computation {
     pub rank: usize,
     pub value: u16,
 }
 
 // What a move is answered: what it did, or the number of its refusal, 2 to 18.
-#[derive(Drop)]
+#[derive(Clone, Copy)]
 pub enum Answer {
     Computed(Computation),
     Delivered(Delivery),

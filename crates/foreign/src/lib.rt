@@ -1,5 +1,7 @@
 // What is lent and answered as numbers in a row, for callers in other languages: a
 // nest, a move and what it did.
+#![tactic(auto)]
+
 mod moves;
 mod nests;
 

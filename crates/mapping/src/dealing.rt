@@ -38,7 +38,7 @@ fn with_bit(bits: [u64; LoopNest::MAX_DEPTH], k: usize) -> [u64; LoopNest::MAX_D
 }
 
 // The bits dealt so far, and the direction whose turn is next.
-#[derive(Drop)]
+#[derive(Clone, Copy)]
 struct Dealing {
     bits: [u64; LoopNest::MAX_DEPTH],
     turn: usize,

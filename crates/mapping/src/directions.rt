@@ -11,7 +11,7 @@ use nest::LoopNest;
 pub const ROW: usize = numbering::COMPONENTS;
 
 // A direction with no bits: its least value and its width.
-#[derive(Drop)]
+#[derive(Clone, Copy)]
 struct Reach {
     least: i64,
     width: u64,
@@ -37,7 +37,7 @@ fn reach_in(rows: &[i64], j: usize, count: usize) -> Reach
 }
 
 // The directions, the class last, with no bits: the least value and the width of each.
-#[derive(Drop)]
+#[derive(Clone, Copy)]
 pub struct Spans {
     pub least: [i64; LoopNest::MAX_DEPTH],
     pub width: [u64; LoopNest::MAX_DEPTH],

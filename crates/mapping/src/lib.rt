@@ -1,5 +1,7 @@
 // The mapping of an accepted nest's iterations to processors (document 01: cards), and the counts
 // of processors and of messages.
+#![tactic(auto)]
+
 mod counts;
 mod dealing;
 mod directions;

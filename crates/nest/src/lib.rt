@@ -1,5 +1,7 @@
 // A loop nest held as numbers (document 01: sheet), its spans, its refusals 2 to
 // 13, and its index points.
+#![tactic(auto)]
+
 mod faults;
 mod points;
 mod refusals;
@@ -21,7 +23,7 @@ pub use crate::source::{source_at, source_of, source_rank};
 
 // A loop nest. Every field may hold any number; `check` says whether the nest is accepted. Of each
 // array the first `depth` or `count` places are part of the nest, and the others are ignored.
-#[derive(Drop)]
+#[derive(Clone, Copy)]
 pub struct LoopNest {
     // document 01: depth n
     pub depth: i64,
@@ -64,20 +66,10 @@ impl LoopNest {
     // are the constants above.
     pub fn empty() -> LoopNest
         ensures value { result ≡ empty_nest }
-        ensures* shape_spans { do
-          depth ← (⟦LoopNest::MAX_DEPTH⟧).entry
-          dependences ← (⟦LoopNest::MAX_DEPENDENCES⟧).entry
-          cube ← (⟦LoopNest::MAX_CUBE⟧).entry
-          iterations ← (⟦LoopNest::MAX_ITERATIONS⟧).entry
-          ⌜ (depth ≡ max_depth) × (dependences ≡ max_dependences) × (cube ≡ pos max_cube)
-              × (iterations ≡ max_iterations) ⌝ }
-        ensures* number_spans { do
-          limit ← (⟦LoopNest::MAX_LIMIT⟧).entry
-          component ← (⟦LoopNest::MAX_COMPONENT⟧).entry
-          boundary ← (⟦LoopNest::MAX_BOUNDARY⟧).entry
-          weight ← (⟦LoopNest::MAX_WEIGHT⟧).entry
-          ⌜ (limit ≡ pos max_limit) × (component ≡ pos max_component) × (boundary ≡ pos max_boundary)
-              × (weight ≡ pos max_weight) ⌝ }
+        ensures shape_spans { (LoopNest.MAX_DEPTH ≡ max_depth) × (LoopNest.MAX_DEPENDENCES ≡ max_dependences)
+            × (LoopNest.MAX_CUBE ≡ pos max_cube) × (LoopNest.MAX_ITERATIONS ≡ max_iterations) }
+        ensures number_spans { (LoopNest.MAX_LIMIT ≡ pos max_limit) × (LoopNest.MAX_COMPONENT ≡ pos max_component)
+            × (LoopNest.MAX_BOUNDARY ≡ pos max_boundary) × (LoopNest.MAX_WEIGHT ≡ pos max_weight) }
     {
         LoopNest {
             depth: 0,
@@ -182,7 +174,7 @@ pub fn to_size(x: i64) -> usize
 
 // What is known of a nest: the number of its first refusal, 2 to 13, or 0 with the
 // number of its iterations.
-#[derive(Drop)]
+#[derive(Clone, Copy)]
 pub struct Inspection {
     pub refusal: u8,
     pub iterations: usize,

@@ -22,14 +22,14 @@ const ZERO: u8 = 48;
 const NINE: u8 = 57;
 
 // What a field says.
-#[derive(Drop)]
+#[derive(Clone, Copy)]
 pub enum Field {
     Number(i64),
     Malformed,
 }
 
 // What a run of digits says.
-#[derive(Drop)]
+#[derive(Clone, Copy)]
 pub enum Run {
     Value(u32),
     NoDigits,

@@ -1,4 +1,6 @@
 // The text of a loop nest (document 01, "The sheet"): read from bytes, written into a lent buffer.
+#![tactic(auto)]
+
 mod fields;
 mod lengths;
 mod reader;
@@ -27,7 +29,7 @@ pub const HEADER_FIELDS: usize = 3;
 pub const LIMIT_FIELDS: usize = 2;
 
 // What a text is read as: the number of the first refusal with a nest of zeros, or 0 with the nest.
-#[derive(Drop)]
+#[derive(Clone, Copy)]
 pub struct Reading {
     pub refusal: u8,
     pub nest: LoopNest,
@@ -72,7 +74,7 @@ pub fn read(text: &[u8]) -> Reading
 }
 
 // What `write` answers: the number of the first refusal, or 0 with the number of bytes written.
-#[derive(Drop)]
+#[derive(Clone, Copy)]
 pub struct Writing {
     pub refusal: u8,
     pub length: usize,

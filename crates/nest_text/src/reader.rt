@@ -15,7 +15,7 @@ use nest::LoopNest;
 
 // A line of numbers: whether it is in form, and then its numbers, with 0 in every place that has no
 // field.
-#[derive(Drop)]
+#[derive(Clone, Copy)]
 pub struct Line {
     pub ok: bool,
     pub numbers: [i64; Line::MAX_FIELDS],
@@ -27,7 +27,7 @@ impl Line {
 }
 
 // The lines behind line 1: whether all are in form, and then their nest.
-#[derive(Drop)]
+#[derive(Clone, Copy)]
 pub struct Body {
     pub ok: bool,
     pub nest: LoopNest,

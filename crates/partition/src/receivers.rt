@@ -11,7 +11,7 @@ use nest::LoopNest;
 
 // What `most_receivers` answers: the number of the first refusal with 0, or 0 with the number of
 // other blocks to which a block sends at most.
-#[derive(Drop)]
+#[derive(Clone, Copy)]
 pub struct Receivers {
     pub refusal: u8,
     pub most: usize,

@@ -1,5 +1,7 @@
 // The plan of a loop nest: its steps, blocks, processors and values, and the counts of them (000,
 // algorithms 1 and 2); and its listing.
+#![tactic(auto)]
+
 mod lines;
 
 ghost use Rattle.std.specs.Prelude.{◌≡◌, ◌++◌, ◌≤◌, ◌+◌, ◌*◌, length, drop};
@@ -17,7 +19,7 @@ use nest::{LoopNest, SHORT_BUFFER};
 use nest_text::Writing;
 
 // What `plan` answers: the number of the first refusal with every count 0, or 0 with the counts.
-#[derive(Drop)]
+#[derive(Clone, Copy)]
 pub struct Planning {
     pub refusal: u8,
     pub iterations: usize,

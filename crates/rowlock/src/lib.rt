@@ -5,6 +5,8 @@
 // span, a nest that was read) is stored through a reference of its own, zeros where the call is
 // refused: it is a part of the answer. `rows::row` answers a part of a lent table, which C cannot
 // take: `rowlock_locate` says where that part lies.
+#![tactic(auto)]
+
 ghost use Rattle.nest.specs.Refusals.{Checks, Inspects};
 ghost use Rattle.nest_text.specs.Text.{Writes};
 ghost use Rattle.rows.specs.Rows.{Locates};

@@ -1,4 +1,6 @@
 // The row of one outermost index, as a part of the caller's own table (document 01, "The row").
+#![tactic(auto)]
+
 ghost use Rattle.std.specs.Prelude.{◌≡◌};
 ghost use Rattle.rows.specs.Rows.{Locates, Cuts};
 
@@ -9,7 +11,7 @@ pub const NO_SUCH_ROW: u8 = 19;
 
 // Where a row lies in a table: the number of a refusal with 0 and 0, or 0 with
 // the row's start and length.
-#[derive(Drop)]
+#[derive(Clone, Copy)]
 pub struct Span {
     pub refusal: u8,
     pub start: usize,

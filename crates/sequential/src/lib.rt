@@ -1,4 +1,6 @@
 // The sequential loop of a loop nest: the values of its iterations, into a lent table.
+#![tactic(auto)]
+
 ghost use Rattle.std.specs.Prelude.{◌≡◌, true, [], ◌++◌, ℕ, ◌*◌, ◌<◌, ◌≤◌, pos, length, get_or, take, drop};
 ghost use Rattle.nest.specs.Nest.{to_ℕ, part, padded, depth_of, count_of, max_depth, max_dependences, max_iterations};
 ghost use Rattle.nest.specs.Nest.{max_boundary, max_weight};

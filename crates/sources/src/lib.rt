@@ -2,6 +2,8 @@
 // a key, a number; keys are in loop order, and the key of a source is the key of the iteration less
 // that of the dependence. The sources along one dependence come in loop order too, so one cursor
 // for each dependence, which only goes forward, finds them in the table of keys.
+#![tactic(auto)]
+
 ghost use Rattle.std.specs.Prelude.{◌≡◌, false, map, ◌++◌, ℕ, ◌+◌, ◌^◌, ◌<◌, ◌≤◌, pos, nat_abs, ◌+ℤ◌, length, get_or, set, drop};
 ghost use Rattle.std.proofs.lemmas.List.Edits.{sets};
 ghost use Rattle.integers.specs.Lists.{any, place, tab};

@@ -1,0 +1,8 @@
+-- `LoopNest::empty` meets its contract. Assumes nothing.
+use borrow.Author.Rules.{rules}
+use Rattle.nest.specs.Nest.{empty_nest}
+use Rattle.nest.proofs.LoopNest.empty.Goals as goal
+
+pub returns : goal.returns
+unfolding empty_nest
+returns c = search rules

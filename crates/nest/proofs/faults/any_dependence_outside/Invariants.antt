@@ -1,0 +1,17 @@
+-- `any_dependence_outside` meets its contract. The loop's invariant: none of the i dependences passed has a component out of span. Assumes nothing.
+use mathlib.Core.Path.{◌≡◌, refl, sym, ◌∙◌}
+use mathlib.Core.Bool.{false}
+use Prim.Native.Nat.{◌≤◌, ◌-◌}
+use native.Mathlib.Omega.{arith}
+use borrow.Author.Rules.{rules}
+use Rattle.integers.specs.Lists.{any, tab}
+use Rattle.integers.proofs.Lists.{any-tab-more, any-tab_found}
+use Rattle.nest.specs.Nest.{dependence_at}
+use Rattle.nest.specs.Refusals.{out_of_span}
+use Rattle.nest.proofs.faults.any_dependence_outside.Given as goal
+
+abbrev pub invariant-loop-i : goal.invariant-loop-i
+invariant-loop-i l = (l.i ≤ l.m) × (any out_of_span (tab (dependence_at l.dependences l.n) l.i) ≡ false)
+
+abbrev pub decreases-loop-i : goal.decreases-loop-i
+decreases-loop-i l = l.m - l.i
