@@ -13,7 +13,7 @@ use Rattle.integers.proofs.Lists.{length-tab, tab-drop, tab_end}
 use Rattle.integers.specs.Vector.{Vector}
 use Rattle.nest.specs.Nest.{Limit, to_ℕ, part}
 use Rattle.nest.specs.Points.{extent, points, point_count, rank, source, Inside}
-use Rattle.nest.proofs.Order.{point-inside, rank-inside, index_of, join_below}
+use Rattle.nest.proofs.Order.{point-inside, rank-inside}
 use Rattle.nest.proofs.Padding.{part-whole}
 use Rattle.nest.proofs.Ranks.{Within, rank-cons, outer-count, rank_split}
 use Rattle.nest.proofs.Sources.{inside-length, source-tab}

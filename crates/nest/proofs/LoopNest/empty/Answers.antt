@@ -3,6 +3,6 @@ use borrow.Author.Rules.{rules}
 use Rattle.nest.specs.Nest.{empty_nest}
 use Rattle.nest.proofs.LoopNest.empty.Goals as goal
 
-pub returns : goal.returns
+pub returns-clause-value : goal.returns-clause-value
 unfolding empty_nest
-returns c = search rules
+returns-clause-value c = search rules

@@ -8,8 +8,7 @@ use lib.Dec.{ltb}
 use Rattle.integers.proofs.Lists.{split}
 use native.Mathlib.Omega.{arith}
 use lib.ListN.{set}
-use borrow.Author.Tests.{ltb-true, ltb-false, lt-ltb, le-ltb}
-use borrow.Author.Rules.{rules}
+use borrow.Author.Tests.{ltb-true, lt-ltb, le-ltb}
 use mir.Facts.{to_z-of_z}
 use Rattle.nest.specs.Nest.{with_component, max_depth, max_dependences}
 use Rattle.nest.proofs.LoopNest.with_dependence.Goals as goal
@@ -50,5 +49,5 @@ pub returns-else-i-lt-MAX_DEPENDENCES : goal.returns-else-i-lt-MAX_DEPENDENCES
 returns-else-i-lt-MAX_DEPENDENCES c =
     let a = c.args in
     let e : with_component a.self.dependences a.i a.k a.component ≡ a.self.dependences
-    = component-none a.self.dependences a.i a.k a.component (⊎_elim (λ w. inr (ltb-false a.k max_depth w.1.left)) (λ w. inl (omega arith)) c.if-i-lt-MAX_DEPENDENCES.branch) in
+    = component-none a.self.dependences a.i a.k a.component (⊎_elim (λ w. inr w.1) (λ w. inl w) c.else-i-lt-MAX_DEPENDENCES.either) in
     rw e refl

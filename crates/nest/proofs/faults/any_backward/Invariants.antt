@@ -1,11 +1,8 @@
 -- `any_backward` meets its contract. The loop's invariant: none of the i dependences passed is backward. Assumes nothing.
-use mathlib.Core.Path.{◌≡◌, refl, sym, ◌∙◌}
+use mathlib.Core.Path.{◌≡◌}
 use mathlib.Core.Bool.{false}
 use Prim.Native.Nat.{◌≤◌, ◌-◌}
-use native.Mathlib.Omega.{arith}
-use borrow.Author.Rules.{rules}
 use Rattle.integers.specs.Lists.{any, tab}
-use Rattle.integers.proofs.Lists.{any-tab-more, any-tab_found}
 use Rattle.nest.specs.Nest.{dependence_at}
 use Rattle.nest.specs.Refusals.{backward}
 use Rattle.nest.proofs.faults.any_backward.Given as goal

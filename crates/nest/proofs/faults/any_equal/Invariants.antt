@@ -1,11 +1,8 @@
 -- `any_equal` meets its contract. The loop's invariant: no two of the j dependences passed are equal. Assumes nothing.
-use mathlib.Core.Path.{◌≡◌, refl, sym, ◌∙◌}
+use mathlib.Core.Path.{◌≡◌}
 use mathlib.Core.Bool.{false}
 use Prim.Native.Nat.{◌≤◌, ◌-◌}
-use native.Mathlib.Omega.{arith}
-use borrow.Author.Rules.{rules}
 use Rattle.integers.specs.Lists.{repeats, tab}
-use Rattle.integers.proofs.Lists.{repeats-tab-more, repeats-tab_found}
 use Rattle.integers.specs.Vector.{eq_v}
 use Rattle.nest.specs.Nest.{dependence_at}
 use Rattle.nest.proofs.faults.any_equal.Given as goal

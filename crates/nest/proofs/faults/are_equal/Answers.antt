@@ -1,6 +1,6 @@
 -- `are_equal` meets its contract. Assumes nothing.
 use mathlib.Core.Path.{◌≡◌, sym, ◌∙◌, ap}
-use Prim.Native.Nat.{◌+◌, ◌*◌, ◌≤◌, ◌-◌}
+use Prim.Native.Nat.{◌+◌, ◌*◌}
 use native.Mathlib.Nat.{not-suc-le-zero}
 use native.Mathlib.Omega.{arith}
 use lib.IntN.{ℤ, pos}
@@ -11,7 +11,7 @@ use mir.Syntax.{w64}
 use mir.Val.{to_z, of_z}
 use Rattle.integers.proofs.Bounds.{told}
 use Rattle.nest.specs.Nest.{max_depth}
-use Rattle.nest.proofs.Vectors.{SameTo, equal_end, unequal_found}
+use Rattle.nest.proofs.Vectors.{equal_end, unequal_found}
 use Rattle.nest.proofs.faults.are_equal.Goals as goal
 use Rattle.nest.proofs.faults.are_equal.Goals.{After-b-1}
 

@@ -1,11 +1,8 @@
 -- `equals_earlier` meets its contract. The loop's invariant: none of the i dependences passed equals dependence j. Assumes nothing.
-use mathlib.Core.Path.{◌≡◌, refl, sym, ◌∙◌}
+use mathlib.Core.Path.{◌≡◌}
 use mathlib.Core.Bool.{false}
 use Prim.Native.Nat.{◌≤◌, ◌-◌}
-use native.Mathlib.Omega.{arith}
-use borrow.Author.Rules.{rules}
 use Rattle.integers.specs.Lists.{any, tab}
-use Rattle.integers.proofs.Lists.{any-tab-more, any-tab_found}
 use Rattle.integers.specs.Vector.{eq_v}
 use Rattle.nest.specs.Nest.{dependence_at}
 use Rattle.nest.proofs.faults.equals_earlier.Given as goal

@@ -1,7 +1,7 @@
 -- `is_backward` meets its contract. Assumes nothing.
 use mathlib.Core.Path.{◌≡◌, sym}
 use mathlib.Core.Bool.{true, false}
-use Prim.Native.Nat.{◌+◌, ◌*◌, ◌≤◌, ◌-◌}
+use Prim.Native.Nat.{◌+◌, ◌*◌}
 use native.Mathlib.Nat.{not-suc-le-zero}
 use native.Mathlib.Omega.{arith}
 use lib.IntN.{ℤ, pos}
@@ -10,7 +10,7 @@ use lib.Signed.{lt_z}
 use borrow.Author.Rules.{rules}
 use Rattle.integers.proofs.Bounds.{told}
 use Rattle.nest.specs.Nest.{max_depth}
-use Rattle.nest.proofs.Vectors.{ZeroTo, zero_more, backward_found, forward_found, backward_end}
+use Rattle.nest.proofs.Vectors.{zero_more, backward_found, forward_found, backward_end}
 use Rattle.nest.proofs.faults.is_backward.Goals as goal
 use Rattle.nest.proofs.faults.is_backward.Goals.{After-d-1, Else-d-lt0, Then-d-lt0}
 

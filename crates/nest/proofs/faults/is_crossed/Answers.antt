@@ -1,7 +1,6 @@
 -- `is_crossed` meets its contract. Assumes nothing.
 use mathlib.Core.Path.{◌≡◌, sym, ◌∙◌, ap}
 use lib.IntN.{pos, neg_ℤ}
-use borrow.Author.Rules.{rules}
 use mir.Facts.{to_z-of_z}
 use Rattle.nest.specs.Nest.{max_limit}
 use Rattle.nest.specs.Refusals.{outside}

@@ -1,19 +1,9 @@
 -- `point_count` meets its contract. The loop's invariant: the total is the number of index points of the k loops passed. Assumes nothing.
-use mathlib.Core.Path.{◌≡◌, refl, sym, ◌∙◌, ap}
-use mathlib.Core.Bool.{false}
-use Prim.Native.Nat.{◌*◌, ◌^◌, ◌≤◌, ◌-◌}
-use native.Mathlib.Nat.{mul-le-mul}
-use native.Mathlib.Omega.{arith}
-use lib.IntN.{pos}
-use lib.ListN.{get_or}
-use borrow.Author.Rules.{rules}
-use Rattle.integers.proofs.Bounds.{told}
+use mathlib.Core.Path.{◌≡◌}
+use Prim.Native.Nat.{◌≤◌, ◌-◌}
 use Rattle.integers.specs.Lists.{tab}
-use Rattle.integers.proofs.Lists.{any-tab-each}
-use Rattle.nest.specs.Nest.{Limit, limit_at, max_depth}
-use Rattle.nest.specs.Points.{extent, point_count}
-use Rattle.nest.specs.Refusals.{crossed}
-use Rattle.nest.proofs.Counted.{max_extent, extent-within, count_low, point_count-more}
+use Rattle.nest.specs.Nest.{limit_at}
+use Rattle.nest.specs.Points.{point_count}
 use Rattle.nest.proofs.points.point_count.Given as goal
 
 abbrev pub invariant-loop-k : goal.invariant-loop-k

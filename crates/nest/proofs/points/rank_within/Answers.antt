@@ -1,7 +1,7 @@
 -- `rank_within` meets its contract. Assumes nothing.
 use mathlib.Core.Path.{◌≡◌, sym, ◌∙◌, ap, ap₂}
 use mathlib.Core.Bool.{false}
-use Prim.Native.Nat.{ℕ, ◌+◌, ◌*◌, ◌^◌, ◌<◌, ◌≤◌, ◌-◌}
+use Prim.Native.Nat.{ℕ, ◌+◌, ◌*◌, ◌^◌, ◌<◌}
 use native.Mathlib.Omega.{arith}
 use lib.IntN.{ℤ, pos, ◌-ℤ◌}
 use lib.ListN.{length, get_or}
@@ -15,7 +15,7 @@ use Rattle.nest.specs.Points.{extent, points, rank}
 use Rattle.nest.specs.Refusals.{outside, crossed}
 use Rattle.nest.proofs.Conditions.{in_span, uncrossed, index_in_span}
 use Rattle.nest.proofs.Counted.{max_extent, extent-within}
-use Rattle.nest.proofs.Ranks.{Within, rank_with, Ranking, ranking_start, next_fits, ranking_more, ranking_end, rank_beyond}
+use Rattle.nest.proofs.Ranks.{Within, rank_with, ranking_start, next_fits, ranking_more, ranking_end, rank_beyond}
 use Rattle.nest.proofs.Vectors.{part-front}
 use Rattle.nest.proofs.points.rank_within.Goals as goal
 use Rattle.nest.proofs.points.rank_within.Goals.{After-distance, After-extent_of, After-index-1, After-is_outside, Else-is_outside, Start}
@@ -104,7 +104,7 @@ returns-then-is_outside c =
     let t = c in
     let d = t in
     let a = d.args in
-    c.point_count.ensures ∙ sym (rank_beyond (f d.before.before.before.before.before) (g d.before.before.before.before.before) (n d.before.before.before.before.before) (k d.before.before.before.before.before) (below d.before.before.before.before.before) (sym (test t.before.before.before.before) ∙ c.if-is_outside.true)) ∙ ap (rank (points (tab (f d.before.before.before.before.before) (n d.before.before.before.before.before)))) (sym (part-front a.t4 a.n))
+    c.point_count.ensures ∙ sym (rank_beyond (f d.before.before.before.before.before) (g d.before.before.before.before.before) (n d.before.before.before.before.before) (k d.before.before.before.before.before) (below d.before.before.before.before.before) (sym (test t.before.before.before.before) ∙ c.if-is_outside.true)) ∙ ap (rank (points (tab (f d.before.before.before.before.before) (n d.before.before.before.before.before)))) (sym (part-front a.point a.n))
 
 pub extent_of-requires : goal.extent_of-requires
 extent_of-requires c = let d = c in rw (low-is d.before.before, high_is d.before.before) (fine d.before.before)
@@ -133,4 +133,4 @@ returns c =
     let a = c.args in
     let l = c.loop-k in
     let e : l.k ≡ a.n = omega arith in
-    ranking_end (limit_at a.t1 a.t2) (λ i. get_or a.t4 i (pos 0)) a.n l.rank (rw e at l.invariant.1) ∙ ap (rank (points (tab (limit_at a.t1 a.t2) a.n))) (sym (part-front a.t4 a.n))
+    ranking_end (limit_at a.lower a.upper) (λ i. get_or a.point i (pos 0)) a.n l.rank (rw e at l.invariant.1) ∙ ap (rank (points (tab (limit_at a.lower a.upper) a.n))) (sym (part-front a.point a.n))

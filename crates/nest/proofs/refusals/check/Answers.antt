@@ -1,5 +1,4 @@
 -- `check` meets its contract. Assumes nothing.
-use borrow.Author.Rules.{rules}
 use Rattle.integers.proofs.Bounds.{told}
 use Rattle.nest.proofs.refusals.check.Goals as goal
 

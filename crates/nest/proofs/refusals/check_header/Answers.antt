@@ -4,7 +4,6 @@ use mir.Facts.{to_z-of_z}
 use mathlib.Core.Path.{◌≡◌, sym, ◌∙◌, ap}
 use mathlib.Core.List.{[], ◌∷◌}
 use lib.IntN.{pos}
-use borrow.Author.Rules.{rules}
 use Rattle.nest.specs.Nest.{max_depth, max_dependences, max_cube, nest_from}
 use Rattle.nest.specs.Refusals.{outside, bad_depth, bad_count, bad_cube, number, holds, first_met}
 use Rattle.nest.proofs.FirstMet.{met, passed}

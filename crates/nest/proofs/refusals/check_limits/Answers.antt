@@ -4,7 +4,6 @@ use Rattle.nest.specs.declared.LoopNest.{LoopNest}
 use mathlib.Core.Path.{◌≡◌, sym, ◌∙◌, ap}
 use mathlib.Core.List.{[], ◌∷◌}
 use lib.Dec.{ltb}
-use borrow.Author.Rules.{rules}
 use borrow.Author.Tests.{lt-ltb, le-ltb}
 use Rattle.nest.specs.Nest.{limits_of, max_iterations, nest_from, to_ℕ}
 use Rattle.nest.specs.Refusals.{bad_limits, too_many_points, number, holds, first_met}

@@ -5,7 +5,6 @@ use Rattle.nest.specs.declared.LoopNest.{LoopNest}
 use mir.Facts.{to_z-of_z}
 use mathlib.Core.Path.{◌≡◌, sym, ◌∙◌, ap}
 use Prim.Native.Nat.{◌≤◌}
-use borrow.Author.Rules.{rules}
 use Rattle.nest.specs.Nest.{to_ℕ, depth_of, count_of, max_depth, max_dependences, nest_from}
 use Rattle.nest.specs.Refusals.{first_met, header_order, limit_order, vector_order, weight_order}
 use Rattle.nest.proofs.FirstMet.{at-header, at-limits, at_vectors, at-weights, depth_within, count-within}

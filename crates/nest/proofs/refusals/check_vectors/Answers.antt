@@ -4,7 +4,6 @@ use mathlib.Core.Path.{◌≡◌, sym, ◌∙◌, ap, refl}
 use mathlib.Core.Bool.{false}
 use mathlib.Core.List.{List, [], ◌∷◌}
 use lib.IntN.{pos}
-use borrow.Author.Rules.{rules}
 use Rattle.integers.specs.Lists.{any, repeats, tab}
 use Rattle.integers.specs.Vector.{Vector, eq_v}
 use Rattle.nest.specs.Nest.{part, time_of, dependence_at, dependences_of, nest_from, to_ℕ}

@@ -4,7 +4,6 @@ use mathlib.Core.Path.{◌≡◌, sym, ◌∙◌, ap}
 use mathlib.Core.Bool.{◌||◌}
 use mathlib.Core.List.{[]}
 use lib.IntN.{pos}
-use borrow.Author.Rules.{rules}
 use Rattle.integers.specs.Lists.{any}
 use Rattle.integers.proofs.Lists.{or_left, or_right}
 use Rattle.nest.specs.Nest.{boundaries_of, weights_of, max_boundary, max_weight, nest_from, to_ℕ}

@@ -1,5 +1,4 @@
 -- `inspect` meets its contract. Assumes nothing.
-use borrow.Author.Rules.{rules}
 use Rattle.integers.proofs.Bounds.{told}
 use Rattle.nest.proofs.refusals.inspect.Goals as goal
 

@@ -1,7 +1,7 @@
 -- `difference` meets its contract. Assumes nothing.
 use mathlib.Core.Path.{◌≡◌, sym}
 use mathlib.Core.List.{List, [], ◌∷◌}
-use Prim.Native.Nat.{ℕ, ◌+◌, ◌*◌, ◌≤◌, ◌-◌}
+use Prim.Native.Nat.{ℕ, ◌+◌, ◌*◌}
 use native.Mathlib.Omega.{arith}
 use lib.IntN.{ℤ, pos}
 use lib.ListN.{get_or}
@@ -9,7 +9,7 @@ use borrow.Author.Rules.{rules}
 use Rattle.integers.proofs.Machine.{Within, fits, read}
 use Rattle.integers.proofs.Solver.{var, ◌⊖◌}
 use Rattle.nest.specs.Nest.{max_depth, max_limit, max_component}
-use Rattle.nest.proofs.Sources.{source_to, source-none, source_more}
+use Rattle.nest.proofs.Sources.{source-none, source_more}
 use Rattle.nest.proofs.source.difference.Goals as goal
 use Rattle.nest.proofs.source.difference.Goals.{After-source-in-loop-k-1}
 

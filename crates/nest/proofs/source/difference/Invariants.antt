@@ -1,15 +1,8 @@
 -- `difference` meets its contract. The loop's invariant: the array has the source of the first k components. Assumes nothing.
-use mathlib.Core.Path.{◌≡◌, sym}
-use mathlib.Core.List.{List, [], ◌∷◌}
-use Prim.Native.Nat.{ℕ, ◌+◌, ◌*◌, ◌≤◌, ◌-◌}
-use native.Mathlib.Omega.{arith}
-use lib.IntN.{ℤ, pos}
-use lib.ListN.{get_or}
-use borrow.Author.Rules.{rules}
-use Rattle.integers.proofs.Machine.{Within, fits, read}
-use Rattle.integers.proofs.Solver.{var, ◌⊖◌}
-use Rattle.nest.specs.Nest.{max_depth, max_limit, max_component}
-use Rattle.nest.proofs.Sources.{source_to, source-none, source_more}
+use mathlib.Core.Path.{◌≡◌}
+use Prim.Native.Nat.{◌*◌, ◌≤◌, ◌-◌}
+use Rattle.nest.specs.Nest.{max_depth}
+use Rattle.nest.proofs.Sources.{source_to}
 use Rattle.nest.proofs.source.difference.Given as goal
 
 abbrev pub invariant-loop-k : goal.invariant-loop-k

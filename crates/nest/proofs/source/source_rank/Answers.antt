@@ -6,8 +6,7 @@ use Prim.Native.Nat.{ℕ, suc, ◌+◌, ◌*◌, ◌-◌, ◌/◌, ◌%◌, ◌<
 use native.Mathlib.Nat as NatL
 use native.Mathlib.Omega.{arith}
 use lib.IntN.{ℤ, pos, nat_abs, ◌+ℤ◌, ◌-ℤ◌}
-use lib.ListN.{length, get_or}
-use borrow.Author.Rules.{rules}
+use lib.ListN.{get_or}
 use Rattle.integers.proofs.Bounds.{told, abs-+}
 use Rattle.integers.specs.Lists.{tab}
 use Rattle.integers.proofs.Lists.{any-tab-each}
@@ -22,7 +21,7 @@ use Rattle.nest.proofs.Conditions.{in_span, uncrossed, index_in_span}
 use Rattle.nest.proofs.Counted.{extent-within}
 use Rattle.nest.proofs.Ranks.{Within, rank_beyond}
 use Rattle.nest.proofs.SourceRanks.{Led, led_start, index-there, led_more, Behind, behind-start, behind_more, behind-below, behind_end, source-listed, point-long}
-use Rattle.nest.proofs.source.source_rank.Invariants.{J, less_at, point_at}
+use Rattle.nest.proofs.source.source_rank.Invariants.{less_at, point_at}
 use Rattle.nest.proofs.source.source_rank.Goals as goal
 use Rattle.nest.proofs.source.source_rank.Goals.{After-distance, After-extent_of-extent, After-index-1, After-is_outside-missing, Else-missing, In-loop-k, Start}
 
@@ -30,11 +29,14 @@ use Rattle.nest.proofs.source.source_rank.Goals.{After-distance, After-extent_of
 abbrev f : Start → ℕ → Limit
 f s = limit_at s.args.lower.now s.args.upper.now
 
+abbrev J : Start → Vector
+J s = point_at s.args.lower.now s.args.upper.now s.args.n s.args.iteration
+
 abbrev g : Start → ℕ → ℤ
 g s = less_at (J s) s.args.dependences.now (s.args.i * max_depth)
 
 is_one : (s : Start) → s.args.iteration < point_count (tab (f s) s.args.n)
-is_one s = let p = s.requires.n_value.0 in omega (arith, p.1, p.3)
+is_one s = let p = s.requires.n_value in omega (arith, p.1, p.3)
 
 -- in the loop: the turn is that of loop j, and the state before it
 abbrev In : Type 0
@@ -59,7 +61,7 @@ behind : (c : In) → Behind (f (start c)) (g (start c)) (start c).args.n (suc (
 behind c = let l = c.loop-k in subst (λ k. Behind (f (start c)) (g (start c)) (start c).args.n k l.stride l.at) (turn c) l.invariant.2
 
 fine : (c : In) → crossed (f (start c) (j c)) ≡ false
-fine c = let s = start c in any-tab-each crossed (f s) s.args.n (j c) s.requires.n_value.0.0 (below c)
+fine c = let s = start c in any-tab-each crossed (f s) s.args.n (j c) s.requires.n_value.0 (below c)
 
 -- where its extent is known
 abbrev Known : Type 0
@@ -133,7 +135,7 @@ abbrev β : List ℕ
 given : (c : At) → Given (μ c) (ρ c) β
 given c = (
   (told c.index_at.result c.index_at.type_inv ∙ index_is c, index-size c),
-  ((told (component c) c.index-1.given, (start (turn_at c)).requires.n_value.1 (j (turn_at c)) (below (turn_at c))), tt),
+  ((told (component c) c.index-1.given, (start (turn_at c)).requires.by_index (j (turn_at c)) (below (turn_at c))), tt),
 )
 
 less-is : (c : At) → reads (reads c.index_at.result -ℤ reads (component c)) ≡ g (start (turn_at c)) (j (turn_at c))
@@ -189,7 +191,7 @@ next_small c =
     let h = (next_led c).below in
     let b =
     behind-below (f s) (g s) s.args.n (j d) (l.stride * (known (at_of c)).extent_of-extent.result) (l.at + c.distance.result * l.stride) (next_behind c) (omega (arith, h)) in
-    let p = s.requires.n_value.0 in
+    let p = s.requires.n_value in
     (b.0, omega (arith, b.1, p.1, p.2))
 
 pub loop-k-init : goal.loop-k-init
@@ -226,7 +228,7 @@ returns-then-missing c =
     let d = turn_at c.before.before in
     let s = start d in
     let a = s.args in
-    s.requires.n_value.0.1 ∙ sym (rank_beyond (f s) (g s) a.n (j d) (below d) (sym (test c.before) ∙ c.if-missing.true))
+    s.requires.n_value.1 ∙ sym (rank_beyond (f s) (g s) a.n (j d) (below d) (sym (test c.before) ∙ c.if-missing.true))
     ∙ ap (rank (points (tab (f s) a.n))) (source-listed a.dependences.now (a.i * max_depth) a.n (J s) (point-long (f s) a.n a.iteration (is_one s)))
 
 pub distance-requires : goal.distance-requires
