@@ -14,7 +14,7 @@ use lib.Seq.{get_or-set_same, get_or-set_other}
 use Rattle.integers.specs.Lists.{place, firsts}
 use Rattle.grouping.specs.Grouping.{Frame, same_class, seeds, class_number, directions, difference}
 use Rattle.numbering.specs.Tables.{row, rows, put_row}
-use Rattle.grouping.specs.Basis.{GroupedAs, Grouped, basis_frame_by, in_one_class_by, pick, residues_by, ClassRowsBy}
+use Rattle.grouping.specs.Basis.{GroupedAs, Grouped, basis_frame_by, in_one_class_by, residues_by, ClassRowsBy}
 use Rattle.numbering.proofs.TableRows.{length-heads, head_at, put_other, put_length, put_row_lem, row_other}
 use Rattle.numbering.proofs.Table.{Numbered, numbered-start, numbered_more, number-most, numbered-number}
 
