@@ -1,6 +1,6 @@
 -- Flags for the numbers of a list, one number more at a time, and the running count of the flags. Assumes nothing.
 use mathlib.Core.Path.{◌≡◌, refl, sym, ap, ◌∙◌}
-use mathlib.Core.Bool.{false, ◌||◌, or_false}
+use mathlib.Core.Bool.{false, ◌||◌, or-false}
 use mathlib.Core.List.{List, [], ◌∷◌, ◌++◌}
 use Prim.Native.Nat.{ℕ, ◌+◌, ◌<◌, ◌≤◌}
 use native.Mathlib.Numerals.{add-one}
@@ -49,7 +49,7 @@ marked_more numbers table n k x h e l w =
         one_yes (any (eqb u) (take (k + 1) numbers)) (stands u ∙ or_right (any (eqb u) xs) (eqb u x) t)
         ∙ sym (ap (λ i. get_or (set (flags xs n) x 1) i 0) (eqb-true u x t) ∙ get_or-set_same (flags xs n) x 1 0 (omega (arith, l, length-tab f n))))
         (λ q.
-        ap one_if (stands u ∙ ap (λ c. any (eqb u) xs || c) q ∙ or_false (any (eqb u) xs))
+        ap one_if (stands u ∙ ap (λ c. any (eqb u) xs || c) q ∙ or-false (any (eqb u) xs))
         ∙ sym (get_or-set_other (flags xs n) x u 1 0 (eqb-false u x q) ∙ get_or-tab f n u 0 b))
 
 -- ---- their running count

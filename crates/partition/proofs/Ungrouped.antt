@@ -14,7 +14,7 @@ use Rattle.nest.specs.Nest.{count_of, time_of, dependences_of}
 use Rattle.nest.specs.Points.{points_of, point}
 use Rattle.nest.specs.Refusals.{refusal, dependence}
 use Rattle.grouping.specs.Projection.{projection}
-use Rattle.grouping.specs.Grouping.{shifted, grouping_vector, extend, chosen_vectors, chosen_count, Zero, Frame, frame, directions, SameClass, Group}
+use Rattle.grouping.specs.Grouping.{shifted, grouping_vector, extend, chosen_vectors, chosen_count, Zero, frame, directions, SameClass, Group}
 use Rattle.partition.specs.Partition.{frame_of, chosen_of, class_of, group_at, block_at}
 use Rattle.grouping.proofs.Vectors.{→is_zero_v}
 use Rattle.grouping.proofs.Chosen.{no_grouping_iff}
