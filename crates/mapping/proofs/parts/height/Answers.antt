@@ -10,30 +10,27 @@ use Rattle.integers.proofs.Machine.{reads, Within, fits, read}
 use Rattle.integers.proofs.Solver.{var, ◌⊖◌}
 use Rattle.mapping.specs.GroupNumbers.{max_number}
 use Rattle.nest.proofs.Counted.{size_is}
-use Rattle.mapping.proofs.parts.height.Statement.{statement}
-use Rattle.mapping.proofs.parts.height.Tie as tie
+use Rattle.mapping.proofs.parts.height.Goals as goal
+use Rattle.mapping.proofs.parts.height.Goals.{Start}
 
-abbrev ρ : tie.Start → List ℤ
+abbrev ρ : Start → List ℤ
 ρ c = c.args.value ∷ c.args.least ∷ []
 
 abbrev β : List ℕ
 β = max_number ∷ max_number ∷ []
 
-h : (c : tie.Start) → Within (ρ c) β
+h : (c : Start) → Within (ρ c) β
 h c = (c.requires.1, (c.requires.0, tt))
 
-sub-result : tie.Need-overflow-sub-result
-sub-result c = fits (ρ c) β (var 0 ⊖ var 1) (h c) tt
+pub overflow_sub-result : goal.overflow_sub-result
+overflow_sub-result c = fits (ρ c) β (var 0 ⊖ var 1) (h c) tt
 
-cast_result : tie.Need-overflow-cast-result
-cast_result c =
+pub overflow_cast-result : goal.overflow_cast-result
+overflow_cast-result c =
     let order = c.requires.2 in
-    need_cast (sub-result c) (omega (ints, dif (reads c.args.value) (reads c.args.least), to_z-of_z c.ranges.least, to_z-of_z c.ranges.value))
+    need_cast (overflow_sub-result c) (omega (ints, dif (reads c.args.value) (reads c.args.least), to_z-of_z c.ranges.least, to_z-of_z c.ranges.value))
 
-returns : tie.Need-returns
+pub returns : goal.returns
 returns c =
     let order = c.requires.2 in
     ap nat_abs (read (ρ c) β (var 0 ⊖ var 1) (h c) tt) ∙ size_is (c.args.value -ℤ c.args.least) (omega (ints, dif c.args.value c.args.least))
-
-pub height_spec : {M : Type 1} → statement M
-height_spec = tie.close (tie.spec sub-result cast_result returns)
