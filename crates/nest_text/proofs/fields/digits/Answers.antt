@@ -1,0 +1,94 @@
+-- `digits` meets its contract. Assumes nothing.
+use mathlib.Core.Path.{◌≡◌, refl, sym, ◌∙◌}
+use mathlib.Core.Bool.{true, false, ◌&&◌}
+use Prim.Native.Nat.{◌≤◌, ◌<◌, ◌-◌, ◌^◌}
+use native.Mathlib.Omega.{arith}
+use native.Mathlib.Nat.{lt_of_lt_of_le, pow-le-pow_right}
+use borrow.Author.Rules.{rules}
+use borrow.Author.Tests.{not-true, not-false, lt-leb, le-leb}
+use lib.Dec.{ltb, lit<}
+use lib.ListN.{length, drop, get_or}
+use Rattle.nest_text.specs.declared.fields.Run.TheVariants.{NoDigits}
+use Rattle.nest_text.specs.Fields.{Bytes, zero_digit, nine_digit, is_digit, all_digits, value_of, no_leading_zero}
+use Rattle.nest_text.specs.Fields.{digits_of}
+use Rattle.nest_text.proofs.FieldLaws.{digits_more, value-more, digits_end, value_end, pow_add-one}
+use Rattle.nest_text.proofs.fields.digits.Goals as goal
+use Rattle.nest_text.proofs.fields.digits.Goals.{At-loop-k, In-loop-k, Start}
+
+pub returns-then-not-well_led : goal.returns-then-not-well_led
+unfolding digits_of
+returns-then-not-well_led c = simp (sym c.well_led.ensures ∙ not-true _ c.if-not-well_led.true-raw)
+
+pub loop-k-init : goal.loop-k-init
+loop-k-init c = (omega arith, (refl, (refl, lit< tt)))
+
+-- the start, and the first test passed, seen from a turn
+abbrev start : At-loop-k → Start
+start l = l.before.before.before.before
+
+-- the bytes
+abbrev bytes : At-loop-k → Bytes
+bytes l = (start l).args.d.now
+
+-- some byte stands there, and the first is no leading zero
+led : (l : At-loop-k) → (ltb 0 (length (bytes l)) && no_leading_zero (bytes l)) ≡ true
+led l = sym l.well_led.ensures ∙ not-false _ l.if-not-well_led.false-raw
+
+-- a byte that is no digit
+no_digits : (i : In-loop-k) → let l = i in
+    is_digit (get_or (bytes l.before) l.loop-k.k 0) ≡ false → digits_of (bytes l.before) ≡ NoDigits
+unfolding digits_of
+no_digits i e =
+    let l = i in
+    let none : all_digits (bytes l.before) ≡ false = l.loop-k.invariant.1.0 ∙ (digits_more (bytes l.before) l.loop-k.k i.loop-k-test.true ∙ simp e) in
+    simp (led l.before, none)
+
+pub returns-then-b-lt-ZERO : goal.returns-then-b-lt-ZERO
+returns-then-b-lt-ZERO c =
+    let i = c in
+    let b = get_or (bytes i.before.before.before) i.loop-k.k 0 in
+    sym (no_digits i.before.before (simp (lt-leb zero_digit b c.if-b-lt-ZERO.true)))
+
+pub returns-then-b-gt-NINE : goal.returns-then-b-gt-NINE
+returns-then-b-gt-NINE c =
+    let i = c in
+    let b = get_or (bytes i.before.before.before.before) i.loop-k.k 0 in
+    sym (no_digits i.before.before.before (simp (le-leb zero_digit b c.if-b-lt-ZERO.false, lt-leb b nine_digit c.if-b-gt-NINE.true)))
+
+-- the value of at most five digits
+small : (c : In-loop-k) → c.loop-k.value < 100000
+small c = lt_of_lt_of_le c.loop-k.invariant.1.1.1 (pow-le-pow_right {n = 10} (lit< tt) {j = 5} (omega arith))
+
+pub overflow_mul-value : goal.overflow_mul-value
+overflow_mul-value c = omega (arith, small c.before.before.before)
+
+pub overflow_add-value : goal.overflow_add-value
+overflow_add-value c = omega (arith, small c.before.before.before.before)
+
+pub loop-k-preserved : goal.loop-k-preserved
+loop-k-preserved c =
+    let i = c in
+    let l = i.loop-k in
+    let bs = bytes i.before.before.before.before.before in
+    let b = get_or bs l.k 0 in
+    let d : is_digit b ≡ true = simp (le-leb zero_digit b c.if-b-lt-ZERO.false, le-leb b nine_digit c.if-b-gt-NINE.false) in
+    let e : c.digit.result ≡ b - zero_digit = omega arith in (
+      omega arith,
+      (
+        l.invariant.1.0 ∙ (digits_more bs l.k i.loop-k-test.true ∙ simp d),
+        (
+          l.invariant.1.1.0 ∙ (value-more bs l.k i.loop-k-test.true l.value ∙ simp e),
+          rw (pow_add-one 10 l.k) (omega arith),
+        ),
+      ),
+    )
+
+pub returns : goal.returns
+unfolding digits_of
+returns c =
+    let l = c.loop-k in
+    let bs = bytes c.before in
+    let e : l.k ≡ length bs = omega arith in
+    let all : all_digits bs ≡ true = l.invariant.1.0 ∙ (rw e (digits_end bs)) in
+    let v : value_of 0 bs ≡ l.value = l.invariant.1.1.0 ∙ (rw e (value_end bs l.value)) in
+    simp (led c.before, all, v)
