@@ -11,9 +11,7 @@ use Rattle.nest_text.proofs.fields.write_at.Goals as goal
 
 pub returns : goal.returns
 returns c =
-    let d = c in
-    let s = d in
-    let a = s.args in
-    let e : d.write_field.new.0 ≡ field_of a.z = d.write_field.ensures ∙ ap field_of (to_z-of_z s.ranges.z) in
-    put_part a.line.now d.write_field.new.0 a.from
+    let a = c.args in
+    let e : c.write_field.new.out ≡ field_of a.z = c.write_field.ensures ∙ ap field_of (to_z-of_z c.ranges.z) in
+    put_part a.line.now c.write_field.new.out a.from
     ∙ ap (λ (f : Bytes). take a.from a.line.now ++ (f ++ drop (a.from + columns) a.line.now)) e
