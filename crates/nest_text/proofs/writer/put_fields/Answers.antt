@@ -12,11 +12,6 @@ use Rattle.nest_text.specs.Fields.{columns, field_of}
 use Rattle.nest_text.specs.Stored.{Stored, InColumns}
 use Rattle.nest_text.proofs.WriteLaws.{stored-none, stored-length, fields_more}
 use Rattle.nest_text.proofs.writer.put_fields.Goals as goal
-use Rattle.nest_text.proofs.writer.put_fields.Goals.{At-loop-i, Start}
-
--- the start, seen from a turn
-abbrev start : At-loop-i → Start
-start c = c.before.before
 
 pub loop-i-init : goal.loop-i-init
 unfolding part tab flat_map
@@ -33,9 +28,8 @@ bounds-numbers-from c = omega arith
 
 pub write_at-requires : goal.write_at-requires
 write_at-requires c =
-    let t = c in
-    let a = start t.before.before.before in
-    let l = t.loop-i in
+    let a = c in
+    let l = c.loop-i in
     let z = get_or a.args.numbers.now (a.args.from + l.i) (pos 0) in
     (omega arith, subst InColumns (sym (told z c.write_at-arg-in-loop-i-1.given)) (a.requires.1.1 l.i (omega arith)))
 
@@ -50,12 +44,10 @@ loop-i-smaller c = omega arith
 
 pub loop-i-preserved : goal.loop-i-preserved
 loop-i-preserved c =
-    let d = c in
-    let t = d in
-    let a = start t.before.before.before.before.before.before in
-    let l = t.loop-i in
+    let a = c in
+    let l = c.loop-i in
     let z = get_or a.args.numbers.now (a.args.from + l.i) (pos 0) in
-    let e = d.write_at.ensures ∙ ap (λ x. take l.end l.out ++ (field_of x ++ drop (l.end + columns) l.out)) (told z d.write_at-arg-in-loop-i-1.given) in
+    let e = c.write_at.ensures ∙ ap (λ x. take l.end l.out ++ (field_of x ++ drop (l.end + columns) l.out)) (told z c.write_at-arg-in-loop-i-1.given) in
     let s = fields_more a.args.numbers.now a.args.from l.i l.invariant.1.1.1 (a.requires.1.1 l.i (omega arith)) (omega arith) e in
     (omega arith, (omega arith, (stored-length s, s)))
 
@@ -64,7 +56,7 @@ shape_of-out c = c.loop-i.invariant.1.1.0
 
 pub returns : goal.returns
 returns c =
-    let a = (start c.before).args in
+    let a = c.args in
     let l = c.loop-i in
     let e : l.i ≡ a.k = omega arith in
     subst (λ (n : ℕ). Stored a.out.now a.at (flat_map field_of (part a.numbers.now a.from n)) l.out l.end) e l.invariant.1.1.1

@@ -15,15 +15,6 @@ use Rattle.integers.proofs.Bounds.{told}
 use Rattle.nest_text.proofs.WriteLaws.{stored-none, stored-length, stored_as, lines_more, pair_fits, pair_line, pair-length}
 use Rattle.nest_text.proofs.writer.put_limits.Invariants.{limits}
 use Rattle.nest_text.proofs.writer.put_limits.Goals as goal
-use Rattle.nest_text.proofs.writer.put_limits.Goals.{After-numbers-in-loop-k-1, At-loop-k, Start}
-
--- the start, seen from a turn
-abbrev start : At-loop-k → Start
-start c = c.before.before
-
--- the turn, seen from behind the two numbers
-abbrev turn : After-numbers-in-loop-k-1 → At-loop-k
-turn c = c.before.before.before
 
 pub loop-k-init : goal.loop-k-init
 unfolding tab flat_map
@@ -41,18 +32,13 @@ offset_bounds-upper-k c = omega arith
 pub bounds-upper-k : goal.bounds-upper-k
 bounds-upper-k c = omega arith
 
--- the two numbers of the line, as the machine holds them
-lower-is : (c : After-numbers-in-loop-k-1) → let z = get_or (start (turn c)).args.lower (turn c).loop-k.k (pos 0) in to_z w64 (of_z w64 z) ≡ z
-lower-is c = told _ c.numbers-1.given
-
-upper_is : (c : After-numbers-in-loop-k-1) → let z = get_or (start (turn c)).args.upper (turn c).loop-k.k (pos 0) in to_z w64 (of_z w64 z) ≡ z
-upper_is c = told _ c.numbers-in-loop-k-1.given
-
 pub put_line-end-requires : goal.put_line-end-requires
 put_line-end-requires c =
-    let d = c in
-    let h = (start (turn d.before.before)).requires.1.1 (turn d.before.before).loop-k.k (omega arith) in
-    (omega arith, (omega arith, pair_fits (lower-is d.before.before) (upper_is d.before.before) h.0 h.1))
+    let k = c.loop-k.k in
+    let h = c.requires.1.1 k (omega arith) in
+    let a = get_or c.args.lower k (pos 0) in
+    let b = get_or c.args.upper k (pos 0) in
+    (omega arith, (omega arith, pair_fits {a = a} {b = b} (told a c.numbers-1.given) (told b c.numbers-in-loop-k-1.given) h.0 h.1))
 
 pub overflow_step-k : goal.overflow_step-k
 overflow_step-k c = omega arith
@@ -62,20 +48,20 @@ loop-k-smaller c = omega arith
 
 pub loop-k-preserved : goal.loop-k-preserved
 loop-k-preserved c =
-    let d = c in
-    let a = start (turn d.before.before.before.before.before) in
-    let l = (turn d.before.before.before.before.before).loop-k in
-    let h = a.requires.1.1 l.k (omega arith) in
-    let q = stored_as (pair_line (lower-is d.before.before.before.before.before) (upper_is d.before.before.before.before.before)) c.put_line-end.ensures in
-    let s = lines_more (limits a.args.lower a.args.upper) l.k l.inv.1.1.1 q in
-    (omega arith, (omega (arith, q.ends, pair-length (get_or a.args.lower l.k (pos 0)) (get_or a.args.upper l.k (pos 0)) h.0 h.1), (stored-length s, s)))
+    let l = c.loop-k in
+    let h = c.requires.1.1 l.k (omega arith) in
+    let a = get_or c.args.lower l.k (pos 0) in
+    let b = get_or c.args.upper l.k (pos 0) in
+    let q = stored_as (pair_line {a = a} {b = b} (told a c.numbers-1.given) (told b c.numbers-in-loop-k-1.given)) c.put_line-end.ensures in
+    let s = lines_more (limits c.args.lower c.args.upper) l.k l.invariant.1.1.1 q in
+    (omega arith, (omega (arith, q.ends, pair-length a b h.0 h.1), (stored-length s, s)))
 
 pub shape_of-out : goal.shape_of-out
 shape_of-out c = c.loop-k.invariant.1.1.0
 
 pub returns : goal.returns
 returns c =
-    let a = (start c.before).args in
+    let a = c.args in
     let l = c.loop-k in
     let e : l.k ≡ a.n = omega arith in
     subst (λ (j : ℕ). Stored a.out.now a.at (flat_map line (tab (limits a.lower a.upper) j)) l.out l.end) e l.invariant.1.1.1
