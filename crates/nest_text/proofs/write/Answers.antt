@@ -5,7 +5,12 @@ use mathlib.Core.Path.{◌≡◌, sym, ap, ap₂, ◌∙◌}
 use native.Mathlib.Omega.{arith}
 use lib.ListN.{length}
 use Rattle.integers.proofs.Bounds.{told}
-use Prim.Native.Nat.{◌+◌, ◌≤◌}
+use Prim.Native.Nat.{ℕ, ◌+◌, ◌^◌, ◌≤◌, ◌<◌}
+use lib.IntN.{ℤ}
+use lib.Signed.{mag}
+use mir.Syntax.{w64}
+use mir.Val.{to_z, of_z}
+use Rattle.nest.specs.declared.LoopNest.{LoopNest}
 use Rattle.nest.specs.Nest.{to_ℕ, part, depth_of, count_of, boundaries_of, max_dependences}
 use Rattle.nest.specs.Refusals.{refusal}
 use Rattle.nest_text.specs.Text.{text_of, text_length}
@@ -15,123 +20,97 @@ use Rattle.nest.proofs.Spans.{spans}
 use Rattle.nest_text.proofs.TextLength.{text-length}
 use Rattle.nest_text.proofs.WriteAnswers.{refused-first, refused_short, bytes-written}
 use Rattle.nest_text.proofs.write.Goals as goal
-use Rattle.nest_text.proofs.write.Goals.{After-text_length-length, After-to_size-m, After-value_count-values, Else-refusal-ne0, Start}
 
--- ---- the places of an accepted nest, and the start
-abbrev start : Else-refusal-ne0 → Start
-start c = c.before.before.before
+-- the number of loops, or of dependences, that a nest says
+size : (n : ℕ) (z : ℤ) → mag z < 2 ^ 63 → n ≡ to_ℕ (to_z w64 (of_z w64 z)) → n ≡ to_ℕ z
+size n z h e = e ∙ ap to_ℕ (told z h)
 
-abbrev passed : After-to_size-m → Else-refusal-ne0
-passed c = c.before.before.before.before
+-- how many boundary values are written
+values : (s : LoopNest) (m k : ℕ) → m ≡ count_of s → k ≡ value_count (part s.boundaries 0 m) → k ≡ value_count (boundaries_of s)
+unfolding boundaries_of
+values s m k d e = e ∙ ap (λ m. value_count (part s.boundaries 0 m)) d
 
-abbrev sized : After-text_length-length → After-to_size-m
-sized c = c.before.before.before
+-- no more than there are
+few : (s : LoopNest) (k : ℕ) → refusal s ≡ 0 → k ≡ value_count (boundaries_of s) → k ≤ max_dependences
+few s k r e =
+    let h = spans s r in
+    omega (arith, e, (values-few s h.count_some).1, h.count_few)
 
-abbrev first : After-text_length-length → Start
-first c = start (passed (sized c))
-
-pub check-refusal-requires : goal.check-refusal-requires
-check-refusal-requires c = search rules
+-- the length that is computed is the text's
+long : (s : LoopNest) (n m k l : ℕ) → refusal s ≡ 0 → n ≡ depth_of s → m ≡ count_of s → k ≡ value_count (boundaries_of s) → l ≡ text_length n m (k + m)
+    → l ≡ length (text_of s)
+long s n m k l r d e v h =
+    h
+    ∙ ap₂ (λ n k. text_length n m k) d (ap₂ (λ v m. v + m) v e)
+    ∙ ap (λ m. text_length (depth_of s) m (value_count (boundaries_of s) + count_of s)) e
+    ∙ sym (text-length s (spans s r))
 
 pub returns-then-refusal-ne0 : goal.returns-then-refusal-ne0
 returns-then-refusal-ne0 c =
-    let d = c in
-    let a = d.args in
-    refused-first (refusal a.s) (text_of a.s) a.out.now d.check-refusal.result d.check-refusal.ensures c.if-refusal-ne0.true
-
-pub to_size-n-requires : goal.to_size-n-requires
-to_size-n-requires c = search rules
-
-pub to_size-m-requires : goal.to_size-m-requires
-to_size-m-requires c = search rules
-
--- the nest is accepted
-accepted : (c : Else-refusal-ne0) → refusal (start c).args.s ≡ 0
-accepted c = sym c.check-refusal.ensures ∙ c.if-refusal-ne0.false
-
--- the numbers of loops and of dependences
-loops : (c : After-to_size-m) → c.to_size-n.result ≡ depth_of (start (passed c)).args.s
-loops c =
-    let d = c in
-    d.to_size-n.ensures ∙ ap to_ℕ (told (start (passed c)).args.s.depth d.struct_told-1.given.0.1)
-
-dependences : (c : After-to_size-m) → c.to_size-m.result ≡ count_of (start (passed c)).args.s
-dependences c = c.to_size-m.ensures ∙ ap to_ℕ (told (start (passed c)).args.s.count c.struct_told-2-1.given.1.0.1)
+    let a = c.args in
+    refused-first (refusal a.s) (text_of a.s) a.out.now c.check-refusal.result c.check-refusal.ensures c.if-refusal-ne0.true
 
 pub value_count-values-requires : goal.value_count-values-requires
 value_count-values-requires c =
-    let d = c in
-    omega (arith, dependences d.before, (spans (start (passed d.before)).args.s (accepted (passed d.before))).count_few)
-
--- how many boundary values are written
-values : (c : After-value_count-values) → c.value_count-values.result ≡ value_count (boundaries_of (start (passed c.before.before)).args.s)
-unfolding boundaries_of
-values c = let d = c in c.value_count-values.ensures ∙ ap (λ m. value_count (part (start (passed d.before.before)).args.s.boundaries 0 m)) (dependences d.before.before)
-
--- no more than there are
-few : (c : After-value_count-values) → c.value_count-values.result ≤ max_dependences
-few c =
-    let d = c in
-    let s = (start (passed d.before.before)).args.s in
-    let h = spans s (accepted (passed d.before.before)) in
-    omega (arith, values c, (values-few s h.count_some).1, h.count_few)
+    let s = c.args.s in
+    let r = sym c.check-refusal.ensures ∙ c.if-refusal-ne0.false in
+    omega (arith, size c.to_size-m.result s.count c.struct_told-2-1.given.1.0.1 c.to_size-m.ensures, (spans s r).count_few)
 
 pub overflow_add-values : goal.overflow_add-values
 overflow_add-values c =
-    let d = c in
-    let h = spans (start (passed d.before.before)).args.s (accepted (passed d.before.before)) in
-    omega (arith, few c, dependences d.before.before, h.count_few)
+    let s = c.args.s in
+    let r = sym c.check-refusal.ensures ∙ c.if-refusal-ne0.false in
+    let m = c.to_size-m.result in
+    let k = c.value_count-values.result in
+    let e : m ≡ count_of s = size m s.count c.struct_told-2-1.given.1.0.1 c.to_size-m.ensures in
+    omega (arith, few s k r (values s m k e c.value_count-values.ensures), e, (spans s r).count_few)
 
 pub text_length-length-requires : goal.text_length-length-requires
 text_length-length-requires c =
-    let d = c in
-    let h = spans (start (passed d.before.before)).args.s (accepted (passed d.before.before)) in
-    (omega (arith, loops d.before.before, h.depth_few), omega (arith, dependences d.before.before, h.count_few), omega (arith, few c, dependences d.before.before, h.count_few))
-
--- the length that is computed is the text's
-long : (c : After-text_length-length) → c.text_length-length.result ≡ length (text_of (first c).args.s)
-long c =
-    let s = (first c).args.s in
-    let d = sized c in
-    c.text_length-length.ensures
-    ∙ ap₂ (λ n k. text_length n d.to_size-m.result k) (loops d) (ap₂ (λ v m. v + m) (values c.before) (dependences d))
-    ∙ ap (λ m. text_length (depth_of s) m (value_count (boundaries_of s) + count_of s)) (dependences d)
-    ∙ sym (text-length s (spans s (accepted (passed d))))
+    let s = c.args.s in
+    let r = sym c.check-refusal.ensures ∙ c.if-refusal-ne0.false in
+    let h = spans s r in
+    let n = c.to_size-n.result in
+    let m = c.to_size-m.result in
+    let k = c.value_count-values.result in
+    let d : n ≡ depth_of s = size n s.depth c.struct_told-1.given.0.1 c.to_size-n.ensures in
+    let e : m ≡ count_of s = size m s.count c.struct_told-2-1.given.1.0.1 c.to_size-m.ensures in
+    let f = few s k r (values s m k e c.value_count-values.ensures) in
+    (omega (arith, d, h.depth_few), omega (arith, e, h.count_few), omega (arith, f, e, h.count_few))
 
 pub returns-then-out-length : goal.returns-then-out-length
 returns-then-out-length c =
-    let d = c in
-    let a = (first d.before).args in
-    refused_short (refusal a.s) (text_of a.s) a.out.now (accepted (passed (sized d.before))) (omega (arith, long d.before))
+    let s = c.args.s in
+    let r = sym c.check-refusal.ensures ∙ c.if-refusal-ne0.false in
+    let n = c.to_size-n.result in
+    let m = c.to_size-m.result in
+    let k = c.value_count-values.result in
+    let d : n ≡ depth_of s = size n s.depth c.struct_told-1.given.0.1 c.to_size-n.ensures in
+    let e : m ≡ count_of s = size m s.count c.struct_told-2-1.given.1.0.1 c.to_size-m.ensures in
+    let l = long s n m k c.text_length-length.result r d e (values s m k e c.value_count-values.ensures) c.text_length-length.ensures in
+    refused_short (refusal s) (text_of s) c.args.out.now r (omega (arith, l))
 
 pub put_text-requires : goal.put_text-requires
 put_text-requires c =
-    let d = c in
-    (accepted (passed (sized d.before.before)), (loops (sized d.before.before), (dependences (sized d.before.before), (values d.before.before.before, omega (arith, long d.before.before)))))
-
-pub shape_of-out : goal.shape_of-out
-shape_of-out c = search rules
+    let s = c.args.s in
+    let r = sym c.check-refusal.ensures ∙ c.if-refusal-ne0.false in
+    let n = c.to_size-n.result in
+    let m = c.to_size-m.result in
+    let k = c.value_count-values.result in
+    let d : n ≡ depth_of s = size n s.depth c.struct_told-1.given.0.1 c.to_size-n.ensures in
+    let e : m ≡ count_of s = size m s.count c.struct_told-2-1.given.1.0.1 c.to_size-m.ensures in
+    let v = values s m k e c.value_count-values.ensures in
+    let l = long s n m k c.text_length-length.result r d e v c.text_length-length.ensures in
+    (r, (d, (e, (v, omega (arith, l)))))
 
 pub returns : goal.returns
 returns c =
-    let p = c in
-    let d = p in
-    let a = (first d.before.before.before.before.before).args in
-    bytes-written (refusal a.s) (text_of a.s) a.out.now (accepted (passed (sized d.before.before.before.before.before))) d.text_length-length.result
-    p.put_text.new.1.1.1.1.0 (long d.before.before.before.before.before) (omega (arith, long d.before.before.before.before.before)) p.put_text.ensures.bytes
-
-pub write_spec : {M : Type 1} → statement M
-write_spec =
-    close
-    (spec
-    check-refusal-requires
-    returns-then-refusal-ne0
-    to_size-n-requires
-    to_size-m-requires
-    value_count-values-requires
-    overflow_add-values
-    text_length-length-requires
-    returns-then-out-length
-    put_text-requires
-    shape_of-out
-    returns)
+    let s = c.args.s in
+    let r = sym c.check-refusal.ensures ∙ c.if-refusal-ne0.false in
+    let n = c.to_size-n.result in
+    let m = c.to_size-m.result in
+    let k = c.value_count-values.result in
+    let d : n ≡ depth_of s = size n s.depth c.struct_told-1.given.0.1 c.to_size-n.ensures in
+    let e : m ≡ count_of s = size m s.count c.struct_told-2-1.given.1.0.1 c.to_size-m.ensures in
+    let l = long s n m k c.text_length-length.result r d e (values s m k e c.value_count-values.ensures) c.text_length-length.ensures in
+    bytes-written (refusal s) (text_of s) c.args.out.now r c.text_length-length.result c.put_text.new.out l (omega (arith, l)) c.put_text.ensures.bytes
