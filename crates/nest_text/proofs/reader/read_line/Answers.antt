@@ -1,25 +1,18 @@
 -- `read_line` meets its contract. Assumes nothing.
 use borrow.Author.Rules.{rules}
 use mathlib.Core.Path.{◌≡◌, sym, ◌∙◌}
-use Prim.Native.Nat.{◌*◌, ◌-◌}
+use Prim.Native.Nat.{ℕ, ◌*◌, ◌-◌, ◌≤◌, ◌<◌}
+use lib.ListN.{length, take, drop}
 use native.Mathlib.Omega.{arith}
 use lib.Seq.{length-take-le}
 use Rattle.nest_text.specs.declared.fields.Field.{Field}
 use Rattle.nest_text.specs.declared.fields.Field.TheVariants.{Number, Malformed}
 use Rattle.nest_text.specs.Text.{field_at}
-use Rattle.nest_text.specs.Fields.{columns}
+use Rattle.nest_text.specs.Fields.{Bytes, columns, read_of}
 use Rattle.nest_text.proofs.FieldLaws.{back}
 use Rattle.nest_text.proofs.LineLaws.{LineRead, line-unended, line_short, field_of-line, field_malformed}
 use Rattle.nest_text.proofs.LineLaws.{line-start, line-more, line_end}
 use Rattle.nest_text.proofs.reader.read_line.Goals as goal
-use Rattle.nest_text.proofs.reader.read_line.Goals.{After-field_at, At-loop-i, Start}
-
--- the start, seen from a turn and from behind its call
-abbrev start : At-loop-i → Start
-start c = c.before.before.before.before.before
-
-abbrev turn : After-field_at → At-loop-i
-turn c = c.before.before
 
 pub returns-then-text-end : goal.returns-then-text-end
 returns-then-text-end c =
@@ -46,30 +39,28 @@ field_at-requires c =
     omega arith
 
 -- the field that was read is that of the text
-field_is : (c : After-field_at) (f : Field) → c.field_at.result ≡ f
-    → field_at (start (turn c)).args.text.now (turn c).loop-i.i ≡ f
-field_is c f e =
-    let a = (start (turn c)).args in
-    sym (c.field_at.ensures ∙ field_of-line a.text.now a.k (turn c).loop-i.i c.loop-i-test.true (omega arith)) ∙ e
+field_is : (text : Bytes) (k i : ℕ) (q f : Field) → i < k → columns * k ≤ length text
+    → q ≡ read_of (take columns (drop (columns * i) (take (columns * k) text))) → q ≡ f → field_at text i ≡ f
+field_is text k i q f l h given e = sym (given ∙ field_of-line text k i l h) ∙ e
 
 pub returns-in_default : goal.returns-in_default
 returns-in_default c =
-    let d = c in
-    let a = (start (turn d.before.before.before)).args in
+    let a = c.args in
+    let i = c.loop-i.i in
     c.no_line-in_default.ensures
-    ∙ field_malformed a.text.now a.k (turn d.before.before.before).loop-i.i d.loop-i-test.true (field_is d.before.before.before Malformed c.enum_told-1.given.1)
+    ∙ field_malformed a.text.now a.k i c.loop-i-test.true
+    (field_is a.text.now a.k i c.field_at.result Malformed c.loop-i-test.true (omega arith) c.field_at.ensures c.in_default.is)
 
 pub loop-i-preserved : goal.loop-i-preserved
 loop-i-preserved c =
-    let d = c in
-    let l = (turn d.before.before.before).loop-i in
-    let s = start (turn d.before.before.before) in
-    let z = c.z-1.given.0.0 in
-    rw (back {z = z} c.known_told-1.given.0.1)
-    (line-more s.args.text.now s.args.k l.i l.numbers z s.requires d.loop-i-test.true l.inv (field_is d.before.before.before (Number z) c.z-1.given.1))
+    let a = c.args in
+    let l = c.loop-i in
+    let z = c.in-Number.z in
+    let f = field_is a.text.now a.k l.i c.field_at.result (Number z) c.loop-i-test.true (omega arith) c.field_at.ensures c.in-Number.is in
+    rw (back {z = z} c.in-Number.known_told-1-own.given.0.1) (line-more a.text.now a.k l.i l.numbers z c.requires c.loop-i-test.true l.invariant f)
 
 pub returns : goal.returns
 returns c =
     let l = c.loop-i in
-    let a = (start c.before).args in
+    let a = c.args in
     line_end a.text.now a.k l.i l.numbers l.invariant (omega arith) c.if-text-end-ne-NEWLINE.false

@@ -25,6 +25,3 @@ returns-else-i-n-2 c =
     let a = c.args in
     let e : a.i ≡ a.n + suc a.m = omega arith in
     (sym (ap (λ (k : ℕ). get_or (widths a.n a.m a.k) k 0) e ∙ width-last a.n a.m a.k), omega arith)
-
-pub width_spec : {M : Type 1} → statement M
-width_spec = close (spec overflow_add-n returns-then-i-n returns-then-i-n-2 returns-else-i-n-2)
