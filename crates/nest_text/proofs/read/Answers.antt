@@ -1,6 +1,5 @@
 -- `read` answers the first refusal of a text, or its nest.
 use mathlib.Core.Path.{◌≡◌, sym, ap, ap₂, ◌∙◌}
-use mathlib.Core.Bool.{true}
 use mathlib.Core.List.{[]}
 use Prim.Native.Nat.{ℕ, ◌^◌, ◌<◌}
 use lib.IntN.{ℤ}
@@ -9,12 +8,9 @@ use mir.Syntax.{w64}
 use mir.Val.{to_z, of_z}
 use borrow.Author.Tests.{not-true, not-false}
 use Rattle.integers.proofs.Bounds.{told}
-use Rattle.nest.specs.declared.LoopNest.{LoopNest}
 use Rattle.nest.specs.Nest.{to_ℕ, depth_of, count_of}
-use Rattle.nest_text.specs.Fields.{Bytes}
 use Rattle.nest_text.specs.Reader.{filled}
-use Rattle.nest_text.proofs.ReadLaws.{Passed, BodyOf, body-behind, first-refused, first-passed}
-use borrow.Author.Rules.{rules}
+use Rattle.nest_text.proofs.ReadLaws.{body-behind, first-refused, first-passed}
 use Rattle.nest_text.proofs.read.Goals as goal
 
 -- the number of loops, or of dependences, that a nest says

@@ -1,7 +1,6 @@
 -- `refused` answers a number with a nest of zeros.
 use mathlib.Core.Path.{ap}
 use Rattle.nest.specs.declared.LoopNest.{LoopNest}
-use borrow.Author.Rules.{rules}
 use Rattle.nest_text.proofs.refused.Goals as goal
 
 pub returns : goal.returns

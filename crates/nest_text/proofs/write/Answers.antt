@@ -1,6 +1,5 @@
 -- `write` answers as the definitions say, and leaves the text, or a refused call's buffer as it
 -- was.
-use borrow.Author.Rules.{rules}
 use mathlib.Core.Path.{◌≡◌, sym, ap, ap₂, ◌∙◌}
 use native.Mathlib.Omega.{arith}
 use lib.ListN.{length}

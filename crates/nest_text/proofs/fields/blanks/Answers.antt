@@ -1,8 +1,6 @@
 -- `blanks` meets its contract. Assumes nothing.
 use mathlib.Core.Path.{◌≡◌}
-use Prim.Native.Nat.{◌≤◌, ◌-◌, ◌+◌}
 use native.Mathlib.Omega.{arith}
-use borrow.Author.Rules.{rules}
 use lib.ListN.{length, drop}
 use Rattle.nest_text.specs.Fields.{blanks_of}
 use Rattle.nest_text.proofs.FieldLaws.{blanks_stop, blanks-more, blanks_end}

@@ -1,11 +1,8 @@
 -- `blanks` counts the spaces that come first. The invariant: the first `at` bytes are spaces.
 use mathlib.Core.Path.{◌≡◌}
 use Prim.Native.Nat.{◌≤◌, ◌-◌, ◌+◌}
-use native.Mathlib.Omega.{arith}
-use borrow.Author.Rules.{rules}
 use lib.ListN.{length, drop}
 use Rattle.nest_text.specs.Fields.{blanks_of}
-use Rattle.nest_text.proofs.FieldLaws.{blanks_stop, blanks-more, blanks_end}
 use Rattle.nest_text.proofs.fields.blanks.Given as goal
 
 abbrev pub invariant-loop-at : goal.invariant-loop-at

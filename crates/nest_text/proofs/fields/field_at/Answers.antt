@@ -2,7 +2,6 @@
 use mathlib.Core.Path.{◌≡◌}
 use Prim.Native.Nat.{◌+◌, ◌-◌}
 use native.Mathlib.Omega.{arith}
-use borrow.Author.Rules.{rules}
 use Rattle.nest_text.specs.Fields.{columns}
 use Rattle.nest_text.proofs.fields.field_at.Goals as goal
 

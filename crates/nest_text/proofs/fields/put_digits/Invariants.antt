@@ -1,15 +1,10 @@
 -- `put_digits` writes the digits of a number at the end of a field. The invariant: those behind
 -- column `at` are written, and `rest` is what the others say.
-use mathlib.Core.Path.{◌≡◌, refl, sym, ap, subst, ◌∙◌}
-use mathlib.Core.List.{[], ◌∷◌}
-use Prim.Native.Nat.{ℕ, ◌-◌, ◌+◌, ◌/◌, ◌%◌, ◌≤◌, ◌<◌, ◌^◌}
-use native.Mathlib.Omega.{arith}
-use borrow.Author.Rules.{rules}
-use lib.ListN.{length, set, drop, take, length-set, length-drop, take-append-drop}
-use lib.Seq.{drop-length}
-use Rattle.nest_text.specs.Fields.{Bytes, columns, zero_digit, digits_to}
-use Rattle.nest_text.proofs.FieldLaws.{drop-set-here, take_set_before, two_digits, tenth, digits_ten}
-use Rattle.nest_text.proofs.FieldLaws.{digits_last}
+use mathlib.Core.Path.{◌≡◌}
+use mathlib.Core.List.{[]}
+use Prim.Native.Nat.{◌≤◌, ◌<◌, ◌^◌}
+use lib.ListN.{length, drop, take}
+use Rattle.nest_text.specs.Fields.{columns, digits_to}
 use Rattle.nest_text.proofs.fields.put_digits.Given as goal
 
 abbrev pub invariant-loop-rest : goal.invariant-loop-rest

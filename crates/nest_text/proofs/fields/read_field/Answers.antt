@@ -1,7 +1,6 @@
 -- `read_field` reads what stands behind the spaces.
 use mathlib.Core.Path.{ap, ◌∙◌}
 use Prim.Native.Nat.{ℕ}
-use borrow.Author.Rules.{rules}
 use lib.ListN.{drop}
 use Rattle.nest_text.specs.Fields.{signed_of, read_of}
 use Rattle.nest_text.proofs.FieldLaws.{rest_part}

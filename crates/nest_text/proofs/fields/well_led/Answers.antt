@@ -1,6 +1,5 @@
 -- `well_led` tests for a first digit that is no leading zero.
 use native.Mathlib.Omega.{arith}
-use borrow.Author.Rules.{rules}
 use borrow.Author.Tests.{le-ltb, lt-ltb, eq-eqb, ne_eqb}
 use lib.ListN.{length, get_or}
 use Rattle.nest_text.specs.Fields.{zero_digit}

@@ -2,7 +2,6 @@
 use mathlib.Core.Path.{◌≡◌, ap, ◌∙◌}
 use mathlib.Core.List.{◌++◌}
 use Prim.Native.Nat.{◌+◌}
-use borrow.Author.Rules.{rules}
 use lib.ListN.{take, drop}
 use mir.Facts.{to_z-of_z}
 use Rattle.nest_text.specs.Fields.{Bytes, columns, field_of}

@@ -3,7 +3,6 @@ use mathlib.Core.Path.{◌≡◌, sym, ap, ◌∙◌}
 use mathlib.Core.List.{[], ◌++◌}
 use Prim.Native.Nat.{ℕ, ◌≤◌, ◌+◌, ◌-◌}
 use native.Mathlib.Omega.{arith}
-use borrow.Author.Rules.{rules}
 use lib.IntN.{ℤ, pos, nat_abs}
 use lib.Signed.{lt_z}
 use lib.ListN.{length, take, set, replicate, length-set}
@@ -48,7 +47,7 @@ pub returns-then-is_negative : goal.returns-then-is_negative
 returns-then-is_negative c =
     let size_is : c.magnitude.result ≡ nat_abs c.args.z = rw (to_z-of_z c.ranges.z) at c.magnitude.ensures.0 in
     rw (columns_put c.args.out.now c.put_spaces.new.out c.put_digits-at.new.out c.magnitude.result c.put_digits-at.result c.args.z c.requires.0
-        size_is c.put_spaces.ensures c.put_digits-at.ensures.0)
+    size_is c.put_spaces.ensures c.put_digits-at.ensures.0)
     (minus_put c).1
 
 pub returns-else-is_negative : goal.returns-else-is_negative

@@ -1,5 +1,4 @@
 -- `last_width` tells the last line by the number of bytes.
-use borrow.Author.Rules.{rules}
 use mathlib.Core.Path.{sym, ◌∙◌}
 use native.Mathlib.Omega.{arith}
 use Rattle.nest_text.proofs.LastLine.{width_short, width-long}

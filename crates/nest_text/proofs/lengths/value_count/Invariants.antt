@@ -1,15 +1,7 @@
 -- `value_count` answers 1 where each boundary value is the first. The invariant: those passed are.
-use borrow.Author.Rules.{rules}
-use borrow.Author.Count.{below_more}
-use mathlib.Core.Path.{◌≡◌, sym, ap, ◌∙◌}
+use mathlib.Core.Path.{◌≡◌}
 use Prim.Native.Nat.{ℕ, ◌-◌, ◌≤◌, ◌<◌}
-use native.Mathlib.Nat.{not-suc-le-zero}
-use native.Mathlib.Omega.{arith}
-use mir.Syntax.{w64}
-use mir.Val.{to_z, of_z}
-use Rattle.integers.proofs.Bounds.{told}
 use Rattle.nest_text.specs.Text.{at}
-use Rattle.nest_text.proofs.EqualValues.{count-one, count-all}
 use Rattle.nest_text.proofs.lengths.value_count.Given as goal
 
 abbrev pub invariant-loop-i : goal.invariant-loop-i

@@ -1,5 +1,4 @@
 -- `boundary_in` answers the boundary value of one dependence.
-use borrow.Author.Rules.{rules}
 use mathlib.Core.Path.{sym, ap, ◌∙◌}
 use lib.IntN.{pos}
 use lib.ListN.{get_or-replicate}

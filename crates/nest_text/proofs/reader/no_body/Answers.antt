@@ -2,7 +2,6 @@
 use mathlib.Core.Path.{ap}
 use mathlib.Core.Bool.{false}
 use Rattle.nest.specs.declared.LoopNest.{LoopNest}
-use borrow.Author.Rules.{rules}
 use Rattle.nest_text.proofs.reader.no_body.Goals as goal
 
 pub returns : goal.returns

@@ -1,15 +1,6 @@
 -- `read_body` answers whether all lines behind line 1 are in form, and their nest.
-use borrow.Author.Rules.{rules}
-use mathlib.Core.Path.{◌∙◌}
-use Prim.Native.Nat.{ℕ, ◌+◌, ◌-◌, ◌<◌, ◌≤◌, ◌^◌}
-use native.Mathlib.Omega.{arith}
-use borrow.Author.Tests.{not-true, not-false}
-use lib.ListN.{length}
-use Rattle.nest_text.specs.Text.{line_length}
-use Rattle.nest.specs.Nest.{max_dependences}
-use Rattle.nest_text.proofs.LastLine.{width-least, width-most}
-use Rattle.nest_text.proofs.BodyLaws.{Reached, reached_start, turn_more, turn-malformed, body_trailing}
-use Rattle.nest_text.proofs.BodyLaws.{body-whole, body-malformed}
+use Prim.Native.Nat.{◌+◌, ◌-◌}
+use Rattle.nest_text.proofs.BodyLaws.{Reached}
 use Rattle.nest_text.proofs.reader.read_body.Given as goal
 
 abbrev pub invariant-loop-i : goal.invariant-loop-i

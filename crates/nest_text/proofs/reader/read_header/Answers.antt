@@ -7,7 +7,6 @@ use Rattle.integers.proofs.Bounds.{told}
 use Rattle.nest.specs.Refusals.{first_met, header_order}
 use Rattle.nest.proofs.Parts.{header-parts}
 use Rattle.nest_text.proofs.ReadLaws.{Headed, line_refused, header_read_lem}
-use borrow.Author.Rules.{rules}
 use Rattle.nest_text.proofs.reader.read_header.Goals as goal
 
 pub returns-then-not-line : goal.returns-then-not-line
@@ -24,13 +23,13 @@ returns-then-refusal-ne0 c =
     let y = told (get_or row 1 (pos 0)) c.with_shape-arg-2-1.given in
     let z = told (get_or row 2 (pos 0)) c.with_shape-arg-3-1.given in
     let made : Headed c.args.text.now s
-        = header_read_lem c.args.text.now line c.read_line-line.ensures (not-false line.ok c.if-not-line.false)
-        c.empty.result s c.empty.ensures.value (rw (x, y, z) at c.with_shape-header.ensures) in
+    = header_read_lem c.args.text.now line c.read_line-line.ensures (not-false line.ok c.if-not-line.false)
+    c.empty.result s c.empty.ensures.value (rw (x, y, z) at c.with_shape-header.ensures) in
     let depth = told s.depth c.struct_told-1.given.0.1 in
     let count = told s.count c.struct_told-2-1.given.1.0.1 in
     let cube = told s.cube c.struct_told-3-1.given.1.1.0.1 in
     let checked : c.check_header-refusal.result ≡ first_met s header_order
-        = (rw (depth, count, cube) at c.check_header-refusal.ensures) ∙ header-parts s in
+    = (rw (depth, count, cube) at c.check_header-refusal.ensures) ∙ header-parts s in
     c.refused-then-refusal-ne0.ensures ∙ made.refused_with c.check_header-refusal.result checked c.if-refusal-ne0.true
 
 pub returns : goal.returns
@@ -42,11 +41,11 @@ returns c =
     let y = told (get_or row 1 (pos 0)) c.with_shape-arg-2-1.given in
     let z = told (get_or row 2 (pos 0)) c.with_shape-arg-3-1.given in
     let made : Headed c.args.text.now s
-        = header_read_lem c.args.text.now line c.read_line-line.ensures (not-false line.ok c.if-not-line.false)
-        c.empty.result s c.empty.ensures.value (rw (x, y, z) at c.with_shape-header.ensures) in
+    = header_read_lem c.args.text.now line c.read_line-line.ensures (not-false line.ok c.if-not-line.false)
+    c.empty.result s c.empty.ensures.value (rw (x, y, z) at c.with_shape-header.ensures) in
     let depth = told s.depth c.struct_told-1.given.0.1 in
     let count = told s.count c.struct_told-2-1.given.1.0.1 in
     let cube = told s.cube c.struct_told-3-1.given.1.1.0.1 in
     let checked : c.check_header-refusal.result ≡ first_met s header_order
-        = (rw (depth, count, cube) at c.check_header-refusal.ensures) ∙ header-parts s in
+    = (rw (depth, count, cube) at c.check_header-refusal.ensures) ∙ header-parts s in
     made.accepted (sym checked ∙ c.if-refusal-ne0.false)

@@ -1,7 +1,6 @@
 -- `read_line` meets its contract. Assumes nothing.
-use borrow.Author.Rules.{rules}
 use mathlib.Core.Path.{◌≡◌, sym, ◌∙◌}
-use Prim.Native.Nat.{ℕ, ◌*◌, ◌-◌, ◌≤◌, ◌<◌}
+use Prim.Native.Nat.{ℕ, ◌*◌, ◌≤◌, ◌<◌}
 use lib.ListN.{length, take, drop}
 use native.Mathlib.Omega.{arith}
 use lib.Seq.{length-take-le}
@@ -10,7 +9,7 @@ use Rattle.nest_text.specs.declared.fields.Field.TheVariants.{Number, Malformed}
 use Rattle.nest_text.specs.Text.{field_at}
 use Rattle.nest_text.specs.Fields.{Bytes, columns, read_of}
 use Rattle.nest_text.proofs.FieldLaws.{back}
-use Rattle.nest_text.proofs.LineLaws.{LineRead, line-unended, line_short, field_of-line, field_malformed}
+use Rattle.nest_text.proofs.LineLaws.{line-unended, line_short, field_of-line, field_malformed}
 use Rattle.nest_text.proofs.LineLaws.{line-start, line-more, line_end}
 use Rattle.nest_text.proofs.reader.read_line.Goals as goal
 

@@ -6,7 +6,6 @@ use lib.ListN.{get_or}
 use Rattle.integers.proofs.Bounds.{told}
 use Rattle.nest_text.specs.Reader.{with_limit_line}
 use Rattle.nest_text.proofs.RowLaws.{limits-line, time-line, dependence-line, last_line}
-use borrow.Author.Rules.{rules}
 use Rattle.nest_text.proofs.reader.with_line.Goals as goal
 
 pub returns-then-i-n : goal.returns-then-i-n

@@ -1,19 +1,13 @@
 -- `put_dependences` stores a line for each dependence. The invariant: those of the first i stand in
 -- the buffer.
-use borrow.Author.Rules.{rules}
-use mathlib.Core.Path.{◌≡◌, refl, ap, subst, ◌∙◌}
+use mathlib.Core.Path.{◌≡◌}
 use mathlib.Core.List.{flat_map}
-use Prim.Native.Nat.{ℕ, ◌+◌, ◌*◌, ◌-◌, ◌≤◌, ◌<◌}
-use native.Mathlib.Omega.{arith}
-use lib.IntN.{pos}
-use lib.ListN.{length, get_or}
+use Prim.Native.Nat.{◌+◌, ◌*◌, ◌-◌, ◌≤◌}
+use lib.ListN.{length}
 use Rattle.integers.specs.Lists.{tab}
-use Rattle.nest.specs.Nest.{part, dependence_at, max_depth}
+use Rattle.nest.specs.Nest.{dependence_at}
 use Rattle.nest_text.specs.Text.{line_length, line}
 use Rattle.nest_text.specs.Stored.{Stored}
-use native.Mathlib.Nat.{mul-le-mul_left, mul-suc}
-use native.Mathlib.Numerals.{add-one}
-use Rattle.nest_text.proofs.WriteLaws.{stored-none, stored-length, line-length, lines_more}
 use Rattle.nest_text.proofs.writer.put_dependences.Given as goal
 
 abbrev pub invariant-loop-i : goal.invariant-loop-i

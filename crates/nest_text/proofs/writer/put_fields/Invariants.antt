@@ -1,17 +1,12 @@
 -- `put_fields` stores the fields of k numbers one behind the other. The invariant: those of the
 -- first i stand in the buffer.
-use mathlib.Core.Path.{◌≡◌, refl, sym, ap, subst, ◌∙◌}
-use mathlib.Core.List.{◌++◌, flat_map}
-use Prim.Native.Nat.{ℕ, ◌+◌, ◌*◌, ◌-◌, ◌≤◌}
-use native.Mathlib.Omega.{arith}
-use lib.IntN.{pos}
-use lib.ListN.{length, get_or, take, drop}
-use Rattle.integers.proofs.Bounds.{told}
-use Rattle.integers.specs.Lists.{tab}
+use mathlib.Core.Path.{◌≡◌}
+use mathlib.Core.List.{flat_map}
+use Prim.Native.Nat.{◌+◌, ◌*◌, ◌-◌, ◌≤◌}
+use lib.ListN.{length}
 use Rattle.nest.specs.Nest.{part}
 use Rattle.nest_text.specs.Fields.{columns, field_of}
-use Rattle.nest_text.specs.Stored.{Stored, InColumns}
-use Rattle.nest_text.proofs.WriteLaws.{stored-none, stored-length, fields_more}
+use Rattle.nest_text.specs.Stored.{Stored}
 use Rattle.nest_text.proofs.writer.put_fields.Given as goal
 
 abbrev pub invariant-loop-i : goal.invariant-loop-i

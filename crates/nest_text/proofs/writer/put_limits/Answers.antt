@@ -1,16 +1,13 @@
 -- `put_limits` meets its contract. Assumes nothing.
-use borrow.Author.Rules.{rules}
 use mathlib.Core.Path.{◌≡◌, refl, subst}
-use mathlib.Core.List.{List, [], ◌∷◌, flat_map}
-use Prim.Native.Nat.{ℕ, ◌+◌, ◌*◌, ◌-◌, ◌≤◌}
+use mathlib.Core.List.{flat_map}
+use Prim.Native.Nat.{ℕ}
 use native.Mathlib.Omega.{arith}
-use lib.IntN.{ℤ, pos}
-use lib.ListN.{length, get_or}
+use lib.IntN.{pos}
+use lib.ListN.{get_or}
 use Rattle.integers.specs.Lists.{tab}
-use Rattle.nest_text.specs.Text.{line_length, limit_width, line}
+use Rattle.nest_text.specs.Text.{line}
 use Rattle.nest_text.specs.Stored.{Stored}
-use mir.Syntax.{w64}
-use mir.Val.{to_z, of_z}
 use Rattle.integers.proofs.Bounds.{told}
 use Rattle.nest_text.proofs.WriteLaws.{stored-none, stored-length, stored_as, lines_more, pair_fits, pair_line, pair-length}
 use Rattle.nest_text.proofs.writer.put_limits.Invariants.{limits}

@@ -1,5 +1,4 @@
 -- `put_line` stores a line: the fields of k numbers, and byte 10 behind them.
-use borrow.Author.Rules.{rules}
 use native.Mathlib.Omega.{arith}
 use mathlib.Core.Path.{◌≡◌}
 use Prim.Native.Nat.{◌+◌, ◌*◌}

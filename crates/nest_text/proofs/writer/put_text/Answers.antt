@@ -163,8 +163,8 @@ put_dependences-last_at-requires c =
     let e = c.requires.1.1.0 in
     let g = c.struct_told-1.given in
     let q = three s c.args.n d
-        (two s c.args.n d (one s (shape_is s g.0.1 g.1.0.1 g.1.1.0.1) c.put_line-limits_at.ensures) c.put_limits-time_at.ensures)
-        c.put_line-dependences_at.ensures in
+    (two s c.args.n d (one s (shape_is s g.0.1 g.1.0.1 g.1.1.0.1) c.put_line-limits_at.ensures) c.put_limits-time_at.ensures)
+    c.put_line-dependences_at.ensures in
     let w : line_length c.args.n * c.args.m ≡ line_length (depth_of s) * count_of s = ap₂ (λ n m. line_length n * m) d e in (
       omega (arith, room s (length c.args.out.now) h c.requires.1.1.1.1, three_end s h q, stored-length q, w),
       (
@@ -186,9 +186,9 @@ put_last-requires c =
     let v = c.requires.1.1.1.0 in
     let g = c.struct_told-1.given in
     let q = four s c.args.n c.args.m d e
-        (three s c.args.n d
-        (two s c.args.n d (one s (shape_is s g.0.1 g.1.0.1 g.1.1.0.1) c.put_line-limits_at.ensures) c.put_limits-time_at.ensures)
-        c.put_line-dependences_at.ensures) c.put_dependences-last_at.ensures in
+    (three s c.args.n d
+    (two s c.args.n d (one s (shape_is s g.0.1 g.1.0.1 g.1.1.0.1) c.put_line-limits_at.ensures) c.put_limits-time_at.ensures)
+    c.put_line-dependences_at.ensures) c.put_dependences-last_at.ensures in
     let few = few-values s c.args.values h v in (
       omega (arith, room s (length c.args.out.now) h c.requires.1.1.1.1, four_end s h q, stored-length q, e, v),
       (
@@ -207,9 +207,9 @@ returns c =
     let v = c.requires.1.1.1.0 in
     let g = c.struct_told-1.given in
     let q = four s c.args.n c.args.m d e
-        (three s c.args.n d
-        (two s c.args.n d (one s (shape_is s g.0.1 g.1.0.1 g.1.1.0.1) c.put_line-limits_at.ensures) c.put_limits-time_at.ensures)
-        c.put_line-dependences_at.ensures) c.put_dependences-last_at.ensures in
+    (three s c.args.n d
+    (two s c.args.n d (one s (shape_is s g.0.1 g.1.0.1 g.1.1.0.1) c.put_line-limits_at.ensures) c.put_limits-time_at.ensures)
+    c.put_line-dependences_at.ensures) c.put_dependences-last_at.ensures in
     let last = ap₂ (λ v m. line (part s.boundaries 0 v ++ part s.weights 0 m)) v e ∙ ap line (sym (last-part s h.count_some)) in
     let all = stored_as (text-parts s (last_of s)) (stored_more q (stored_as last c.put_last.ensures)) in
     record { bytes = all.bytes; ends = omega arith }
