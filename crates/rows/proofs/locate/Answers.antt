@@ -1,5 +1,4 @@
 -- `locate` meets its contract: one law of `SpanLaws` for each way out. Assumes nothing.
-use borrow.Author.Rules.{rules}
 use mathlib.Core.Path.{◌≡◌, sym, ap, ap₂, ◌∙◌}
 use mathlib.Core.Bool.{false}
 use Prim.Native.Nat.{◌+◌, ◌*◌, ◌/◌, ◌≤◌}
@@ -72,15 +71,13 @@ place c = c.distance-place.ensures ∙ cc (index (goal.at.After-distance-place c
 -- the row's length and start
 row-length : (c : After-distance-place) → c.inspect-known.result.iterations / (c.distance.result + 1) ≡ row_length c.args.s c.args.index
 row-length c =
-    let d = c in
-    let a = d.args in
-    ap (λ n. n / (c.distance.result + 1)) (count (goal.at.After-distance-place d).Else-refusal-ne0) ∙ width_is a.s (accepted (goal.at.After-distance-place d).Else-refusal-ne0) a.index (there (goal.at.After-distance-place c).Else-is_outside) c.distance.result (far (goal.at.After-distance-place c).After-distance) ∙ sym (length_at a.s (accepted (goal.at.After-distance-place d).Else-refusal-ne0) a.index (there (goal.at.After-distance-place c).Else-is_outside))
+    let a = c.args in
+    ap (λ n. n / (c.distance.result + 1)) (count (goal.at.After-distance-place c).Else-refusal-ne0) ∙ width_is a.s (accepted (goal.at.After-distance-place c).Else-refusal-ne0) a.index (there (goal.at.After-distance-place c).Else-is_outside) c.distance.result (far (goal.at.After-distance-place c).After-distance) ∙ sym (length_at a.s (accepted (goal.at.After-distance-place c).Else-refusal-ne0) a.index (there (goal.at.After-distance-place c).Else-is_outside))
 
 row-start : (c : After-distance-place) → c.distance-place.result * (c.inspect-known.result.iterations / (c.distance.result + 1)) ≡ row_start c.args.s c.args.index
 row-start c =
-    let d = c in
-    let a = d.args in
-    ap₂ (λ m n. m * n) (place c) (row-length c ∙ length_at a.s (accepted (goal.at.After-distance-place d).Else-refusal-ne0) a.index (there (goal.at.After-distance-place c).Else-is_outside)) ∙ sym (start-at a.s (accepted (goal.at.After-distance-place d).Else-refusal-ne0) a.index (there (goal.at.After-distance-place c).Else-is_outside))
+    let a = c.args in
+    ap₂ (λ m n. m * n) (place c) (row-length c ∙ length_at a.s (accepted (goal.at.After-distance-place c).Else-refusal-ne0) a.index (there (goal.at.After-distance-place c).Else-is_outside)) ∙ sym (start-at a.s (accepted (goal.at.After-distance-place c).Else-refusal-ne0) a.index (there (goal.at.After-distance-place c).Else-is_outside))
 
 pub returns-then-refusal-ne0 : goal.returns-then-refusal-ne0
 returns-then-refusal-ne0 c =
@@ -96,11 +93,9 @@ returns-then-entries-iterations c =
 
 pub returns-then-is_outside : goal.returns-then-is_outside
 returns-then-is_outside c =
-    let d = c in
-    let a = d.args in
-    let e = d in
-    let n = count (goal.at.returns-then-is_outside e).Else-refusal-ne0 in
-    c.refused-then-is_outside.ensures ∙ sym (no_row a.s a.entries a.index (accepted (goal.at.returns-then-is_outside e).Else-refusal-ne0) (omega (arith, e.if-entries-iterations.false)) (sym (test (goal.at.returns-then-is_outside d).After-is_outside) ∙ c.if-is_outside.true))
+    let a = c.args in
+    let n = count (goal.at.returns-then-is_outside c).Else-refusal-ne0 in
+    c.refused-then-is_outside.ensures ∙ sym (no_row a.s a.entries a.index (accepted (goal.at.returns-then-is_outside c).Else-refusal-ne0) (omega (arith, c.if-entries-iterations.false)) (sym (test (goal.at.returns-then-is_outside c).After-is_outside) ∙ c.if-is_outside.true))
 
 pub distance-requires : goal.distance-requires
 distance-requires c =
@@ -124,13 +119,11 @@ distance-place-requires c =
 
 pub overflow_mul-result : goal.overflow_mul-result
 overflow_mul-result c =
-    let d = c in
-    let a = d.args in
-    rw (row-start c) (let f = row_fits a.s (accepted (goal.at.overflow_mul-result d).Else-refusal-ne0) a.index (there (goal.at.overflow_mul-result c).Else-is_outside) in omega (arith, few-points a.s (accepted (goal.at.overflow_mul-result d).Else-refusal-ne0)))
+    let a = c.args in
+    rw (row-start c) (let f = row_fits a.s (accepted (goal.at.overflow_mul-result c).Else-refusal-ne0) a.index (there (goal.at.overflow_mul-result c).Else-is_outside) in omega (arith, few-points a.s (accepted (goal.at.overflow_mul-result c).Else-refusal-ne0)))
 
 pub returns : goal.returns
 returns c =
-    let d = c in
-    let a = d.args in
+    let a = c.args in
     ap₂ (λ m n. let r : Span = record { refusal = 0; start = m; length = n } in r) (row-start c) (row-length c)
-    ∙ sym (found_row a.s a.entries a.index (accepted (goal.at.returns d).Else-refusal-ne0) (let n = count (goal.at.returns d).Else-refusal-ne0 in omega (arith, c.if-entries-iterations.false)) (there (goal.at.returns c).Else-is_outside))
+    ∙ sym (found_row a.s a.entries a.index (accepted (goal.at.returns c).Else-refusal-ne0) (let n = count (goal.at.returns c).Else-refusal-ne0 in omega (arith, c.if-entries-iterations.false)) (there (goal.at.returns c).Else-is_outside))
