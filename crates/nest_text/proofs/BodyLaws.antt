@@ -1,7 +1,7 @@
 -- The lines behind line 1, read one after the other.
 -- Assumes nothing.
 use mathlib.Core.Path.{◌≡◌, refl, sym, ap, ◌∙◌}
-use mathlib.Core.Bool.{Bool, true, false, not}
+use mathlib.Core.Bool.{Bool, true, false}
 use mathlib.Core.List.{List, [], ◌∷◌, ◌++◌, map, map-map}
 use Prim.Native.Nat.{ℕ, zero, suc, ◌+◌, ◌*◌, ◌-◌, ◌≤◌, ◌<◌}
 use native.Mathlib.Numerals.{add-one}
@@ -12,7 +12,6 @@ use lib.IntN.{ℤ, pos}
 use lib.ListN.{length, get_or, take, drop, length-append, length-take, length-drop, length-replicate, length-map}
 use lib.ListN.{get_or-eq_default}
 use lib.Seq.{drop-cons, drop-drop, drop-length, get_or-drop, get_or-take, take-suc, take_all, length-take-le}
-use Rattle.integers.specs.Lists.{any}
 use Rattle.integers.proofs.Lists.{split}
 use Rattle.nest.specs.declared.LoopNest.{LoopNest}
 use Rattle.nest.specs.Nest.{Limit, padded, nest_of, empty_nest, max_depth, max_dependences}
