@@ -81,7 +81,7 @@ fn make(
     let mut table = [0i64; LoopNest::MAX_ITERATIONS];
     sources::keys_into(s, &mut table);
     let keys = &table[..iterations];
-    let step_count_is = partition::steps_into(s, keys, steps);
+    let step_count = partition::steps_into(s, keys, steps);
     let block_count = place_blocks(s, keys, blocks, processors);
     let processor_count = mapping::processor_count(processors, iterations);
     let message_count = mapping::message_count(s, keys, processors);
@@ -89,7 +89,7 @@ fn make(
     Planning {
         refusal: 0,
         iterations: iterations,
-        steps: step_count_is,
+        steps: step_count,
         blocks: block_count,
         processors: processor_count,
         messages: message_count,
