@@ -1,5 +1,5 @@
 /* The verified loop planner for callers in C and C++: the functions of
- * target/staticlib/librowlock.a, which `rt staticlib rowlock` proves and writes.
+ * target/staticlib/librowlock.a, which `tools/archive` proves and writes.
  *
  * Each function takes any numbers and any lengths, and returns ROWLOCK_DONE or the number of one
  * refusal. A refused call changes no lent table, state or text buffer. What a function answers

@@ -1,5 +1,5 @@
-//! Links the static library that `rt staticlib rowlock` writes into this crate, and so into every
-//! crate that depends on it.
+//! Links the static library that `tools/archive` proves and writes into this crate, and so into
+//! every crate that depends on it.
 use std::path::Path;
 
 fn main() {
@@ -8,7 +8,7 @@ fn main() {
     let library = folder.join("librowlock.a");
     assert!(
         library.exists(),
-        "{} is missing: run `rt staticlib rowlock` in the repository's folder",
+        "{} is missing: run `tools/archive` in the repository's folder",
         library.display()
     );
     println!("cargo:rustc-link-search=native={}", folder.display());

@@ -1,5 +1,5 @@
-//! The verified loop planner for callers in Rust: safe functions over the static library that `rt
-//! staticlib rowlock` proves and writes.
+//! The verified loop planner for callers in Rust: safe functions over the static library that
+//! `tools/archive` proves and writes.
 //!
 //! Every function takes any numbers, any texts and slices of any length, and answers what was asked
 //! for or one [`Refusal`]. A refused call changes nothing that is lent. Nothing here panics,
