@@ -19,8 +19,10 @@ use Rattle.partition.specs.Partition.{distinct_products, step, steps_of, frame_o
 use Rattle.grouping.specs.Grouping.{pivot, clear, remainder, may_group, grouping_vector, extend, chosen_vectors, latest}
 use Rattle.grouping.specs.Grouping.{coefficients, left, is_combination, frame, directions, difference, same_class}
 use Rattle.grouping.specs.Grouping.{coordinates, seeds, eq_g, quotients, class_number, group, blocks, block_number}
-use Rattle.mapping.specs.Mapping.{order_in, direction_in, undealt_in, takes_bit, with_bit as dealtBit, no_direction, next_turn}
-use Rattle.mapping.specs.Mapping.{deal_bit, deal_bits, dealt, gray, part_of, joined, processor, directions_of, processors_of}
+use Rattle.mapping.specs.Mapping.{order_in, direction_in, undealt_in, takes_bit, with_bit as dealtBit, no_direction}
+use Rattle.mapping.specs.Mapping.{next_turn}
+use Rattle.mapping.specs.Mapping.{deal_bit, deal_bits, dealt, gray, part_of, joined, processor, directions_of}
+use Rattle.mapping.specs.Mapping.{processors_of}
 use Rattle.mapping.specs.Mapping.{crosses, is_message}
 use Rattle.sequential.specs.Sequential.{source_value, value_of, weighted_sum, rule_of}
 use Rattle.partition.specs.Examples.{vector}
@@ -46,7 +48,8 @@ unfolding any all first place firsts_after firsts count repeats tab greatest fir
     is_point source projection divides makes_whole multiplier group_size least_z step pivot clear remainder may_group
     grouping_vector extend chosen_vectors latest coefficients left is_combination frame directions difference same_class
     coordinates seeds eq_g quotients class_number group blocks block_number frame_of groups_of order_in greatest_z
-    direction_in undealt_in takes_bit dealtBit no_direction next_turn deal_bit deal_bits dealt gray part_of joined processor
+    direction_in undealt_in takes_bit dealtBit no_direction next_turn deal_bit deal_bits dealt gray part_of joined
+    processor
     directions_of processors_of vector listed_with listed flat_map
 example_processors = refl
 
@@ -76,7 +79,8 @@ example_allowed = refl
 
 -- the run on the tables answers these numbers
 pub example_answers_lem : answers (rule_of listed) listed example_layout example_state example_moves ≡ example_answers
-unfolding any place count tab dots plus times eq_z eq_v to_ℕ part limits_of time_of dependences_of boundaries_of weights_of
+unfolding any place count tab dots plus times eq_z eq_v to_ℕ part limits_of time_of dependences_of boundaries_of
+    weights_of
     padded nest_of extent indices points points_of point_count rank is_point source number outside crossed out_of_span
     backward against holds first_met refusal repeats or_else short_buffer source_rank crosses is_message source_value
     value_of total weighted_sum rule_of vector listed_with listed flat_map zip_with every better least taking delivering
@@ -89,7 +93,8 @@ pub example_run : run (rule_of listed) listed example_layout example_state examp
   done = 1 ∷ 1 ∷ 1 ∷ 1 ∷ 1 ∷ 1 ∷ 7 ∷ [];
   delivered = 0 ∷ 0 ∷ 1 ∷ 0 ∷ 0 ∷ 2 ∷ 255 ∷ [];
 }
-unfolding any place count tab dots plus times eq_z eq_v to_ℕ part limits_of time_of dependences_of boundaries_of weights_of
+unfolding any place count tab dots plus times eq_z eq_v to_ℕ part limits_of time_of dependences_of boundaries_of
+    weights_of
     padded nest_of extent indices points points_of point_count rank is_point source number outside crossed out_of_span
     backward against holds first_met refusal repeats or_else short_buffer source_rank crosses is_message source_value
     value_of total weighted_sum rule_of vector listed_with listed flat_map zip_with every better least taking delivering
@@ -100,10 +105,13 @@ example_run = refl
 pub example_reference : reference_answers listed (layout_of listed) example_moves ≡ example_answers
 unfolding any all first place firsts_after firsts count repeats tab greatest first_from dots plus times eq_z eq_v
     is_zero_v floor_div to_ℕ part limits_of time_of dependences_of padded nest_of extent indices points points_of rank
-    is_point source source_rank projection divides makes_whole multiplier group_size least_z distinct_products step pivot
+    is_point source source_rank projection divides makes_whole multiplier group_size least_z distinct_products step
+    pivot
     clear remainder may_group grouping_vector extend chosen_vectors latest coefficients left is_combination frame
     directions difference same_class coordinates seeds eq_g quotients class_number group blocks block_number steps_of
-    frame_of groups_of order_in greatest_z direction_in undealt_in takes_bit dealtBit no_direction next_turn deal_bit deal_bits
-    dealt gray part_of joined processor directions_of processors_of crosses is_message vector listed_with listed flat_map
+    frame_of groups_of order_in greatest_z direction_in undealt_in takes_bit dealtBit no_direction next_turn deal_bit
+    deal_bits
+    dealt gray part_of joined processor directions_of processors_of crosses is_message vector listed_with listed
+    flat_map
     every better least taking delivering effect
 example_reference = refl

@@ -1,7 +1,8 @@
 -- Serves the contracts of inner functions alone: what a move looks at, and what a compute and a
 -- delivery answer and leave once the nest is accepted and every buffer is long enough.
 -- Assumes nothing.
-use Rattle.std.specs.Prelude.{◌≡◌, Bool, true, false, not, ◌&&◌, List, [], ℕ, ◌+◌, ◌^◌, ◌≤◌, eqb, ltb, length, get_or, set}
+use Rattle.std.specs.Prelude.{◌≡◌, Bool, true, false, not, ◌&&◌, List, [], ℕ, ◌+◌, ◌^◌, ◌≤◌, eqb, ltb, length, get_or}
+use Rattle.std.specs.Prelude.{set}
 use Rattle.std.proofs.Math.Option.{Option, none, some}
 use Rattle.nest.specs.declared.LoopNest.{LoopNest}
 use Rattle.sequential.specs.Sequential.{rule_of}

@@ -19,8 +19,10 @@ pub record Takes (s : LoopNest) (v : View) (p k : ℕ) : Type 0 where
   pub is_iteration : k < length (points_of s)
   pub on_processor : processor_in v k ≡ p
   pub missing : v.done k ≡ false
-  pub least_step : (c : ℕ) → c < length (points_of s) → processor_in v c ≡ p → v.done c ≡ false → step_in v k ≤ step_in v c
-  pub least_rank : (c : ℕ) → c < length (points_of s) → processor_in v c ≡ p → v.done c ≡ false → step_in v c ≡ step_in v k
+  pub least_step : (c : ℕ) → c < length (points_of s) → processor_in v c ≡ p → v.done c ≡ false
+      → step_in v k ≤ step_in v c
+  pub least_rank : (c : ℕ) → c < length (points_of s) → processor_in v c ≡ p → v.done c ≡ false
+      → step_in v c ≡ step_in v k
       → k ≤ c
 
 -- the source j of iteration k along dependence i is there: done if on

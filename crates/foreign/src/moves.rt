@@ -67,7 +67,8 @@ fn deliver_in(
     done: &[u8],
     delivered: &mut [u8],
 ) -> Answer
-    requires numbers_value { (refusal (nest_in numbers.now) ≡ 0) × (iterations ≡ length (points_of (nest_in numbers.now))) }
+    requires numbers_value { (refusal (nest_in numbers.now) ≡ 0)
+        × (iterations ≡ length (points_of (nest_in numbers.now))) }
     requires iterations_in_bounds { (iterations ≤ length processors.now) × (iterations ≤ length done.now)
         × (iterations ≤ length delivered.old) }
     ensures { Delivers (nest_in numbers.now) processors.now done.now
@@ -95,7 +96,8 @@ fn move_on(
     done: &mut [u8],
     delivered: &mut [u8],
 ) -> Answer
-    requires numbers_value { (refusal (nest_in numbers.now) ≡ 0) × (iterations ≡ length (points_of (nest_in numbers.now))) }
+    requires numbers_value { (refusal (nest_in numbers.now) ≡ 0)
+        × (iterations ≡ length (points_of (nest_in numbers.now))) }
     requires room { Room iterations (layout_in steps.now processors.now)
         (state_in values.old done.old delivered.old) }
     ensures answers { Answers (nest_in numbers.now) (layout_in steps.now processors.now)

@@ -97,7 +97,8 @@ pub fn inspect_in(numbers: &[i64]) -> Inspection
 // iterations that 63 numbers are; their number where the source is none of them.
 pub fn source_in(numbers: &[i64], iterations: usize, k: usize, i: usize) -> usize
     requires numbers_len { length numbers.now ≡ number_count }
-    requires numbers_value { (refusal (nest_in numbers.now) ≡ 0) × (iterations ≡ length (points_of (nest_in numbers.now)))
+    requires numbers_value { (refusal (nest_in numbers.now) ≡ 0)
+        × (iterations ≡ length (points_of (nest_in numbers.now)))
         × (k < iterations) × (i < count_of (nest_in numbers.now)) }
     ensures { IsSource (nest_in numbers.now) k i result }
 {

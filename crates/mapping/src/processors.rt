@@ -20,7 +20,8 @@ fn code_at(
     width: [u64; LoopNest::MAX_DEPTH],
     bits: [u64; LoopNest::MAX_DEPTH],
 ) -> u64
-    requires k_lt_max_iterations { (k < max_iterations) × (j < max_depth) × RowsInSpan rows.now (k + 1) × (get_or bits j 0 ≤ max_cube) }
+    requires k_lt_max_iterations { (k < max_iterations) × (j < max_depth) × RowsInSpan rows.now (k + 1)
+        × (get_or bits j 0 ≤ max_cube) }
     requires pos_bound { (nat_abs (get_or least j (pos 0)) ≤ max_number)
         × InWidth (held_at least width bits j) (number_at rows.now (column_of j) k) }
     ensures { result ≡ gray (part_of (held_at least width bits j) (number_at rows.now (column_of j) k)) }
@@ -36,7 +37,8 @@ fn processor_of(
     width: [u64; LoopNest::MAX_DEPTH],
     bits: [u64; LoopNest::MAX_DEPTH],
 ) -> u8
-    requires k_lt_max_iterations { (k < max_iterations) × RowsInSpan rows.now (k + 1) × (bits_of (held least width bits) ≤ max_cube) }
+    requires k_lt_max_iterations { (k < max_iterations) × RowsInSpan rows.now (k + 1)
+        × (bits_of (held least width bits) ≤ max_cube) }
     requires by_index { ((j : ℕ) → j < max_depth → nat_abs (get_or least j (pos 0)) ≤ max_number)
         × Fits (held least width bits) (values_in rows.now k) }
     ensures { result ≡ joined 0 (held least width bits) (values_in rows.now k) }
@@ -57,7 +59,8 @@ fn fill_processors(
     bits: [u64; LoopNest::MAX_DEPTH],
     processors: &mut [u8],
 )
-    requires count_le_max_iterations { (count ≤ max_iterations) × RowsInSpan rows.now count × (bits_of (held least width bits) ≤ max_cube)
+    requires count_le_max_iterations { (count ≤ max_iterations) × RowsInSpan rows.now count
+        × (bits_of (held least width bits) ≤ max_cube)
         × (count ≤ length processors.old) }
     requires by_index { ((j : ℕ) → j < max_depth → nat_abs (get_or least j (pos 0)) ≤ max_number)
         × ((k : ℕ) → k < count → Fits (held least width bits) (values_in rows.now k)) }

@@ -20,7 +20,7 @@ use Rattle.nest.proofs.Answers.{answered-first, answered_without, numbered-one, 
 
 -- ---- the condition of 12
 
--- P-as-P, which document 01 calls s, is 0
+-- P·P, which document 01 calls s, is 0
 abbrev pub ZeroSquare : LoopNest → Type 0
 ZeroSquare s = dots (time_of s) (time_of s) ≡ pos 0
 
@@ -43,7 +43,7 @@ module _ (s : LoopNest) where
   zero-product : ZeroTime s → (v : Vector) → dots (time_of s) v ≡ pos 0
   zero-product z v = zero-dots (time_of s) v (λ k l. z k (subst (λ n. k < n) (time_length s) l))
 
-  -- P-as-P is 0 exactly if the time vector is zero
+  -- P·P is 0 exactly if the time vector is zero
   pub zero-square_iff : ZeroSquare s ↔ ZeroTime s
   zero-square_iff = (λ e k l. self_zero (time_of s) e k, λ z. zero-product z (time_of s))
 

@@ -16,7 +16,7 @@ use Rattle.nest_text.specs.Form.{Whole, LineMalformed, LineMeets, RestMalformed,
 use Rattle.nest_text.proofs.Answers.{read-answered}
 
 module _ (bs : Bytes) where
-  -- the condition of 12: the text says a nest whose P-as-P is 0
+  -- the condition of 12: the text says a nest whose P·P is 0
   abbrev pub SaysZeroSquare : Type 0
   SaysZeroSquare = (s : LoopNest) × Whole bs s × ZeroSquare s
 

@@ -110,8 +110,10 @@ cases =
 
 -- each text is answered so
 pub answers_are : all (λ c. eqb (read_refusal c.text) c.answer) cases ≡ true
-unfolding all any first tab repeats dots eq_z eq_v to_ℕ part limits_of time_of dependences_of boundaries_of weights_of padded
-    nest_of empty_nest extent point_count number outside crossed out_of_span backward against holds first_met or_else blanks_of
+unfolding all any first tab repeats dots eq_z eq_v to_ℕ part limits_of time_of dependences_of boundaries_of weights_of
+    padded
+    nest_of empty_nest extent point_count number outside crossed out_of_span backward against holds first_met or_else
+    blanks_of
     all_digits value_of digits_of signed_of read_of is_line numbers_of are_lines line_numbers widths shapes fits
     first_fitting is_headed header_width_of header_numbers headed header_of rest_of is_shaped body_numbers boundaries_in
     nest_from body_of read_refusal bytes lines one_loop plain unended two_dependences cases flat_map
@@ -142,10 +144,13 @@ is_again a =
 
 -- each of them
 pub agains_are : all is_again agains ≡ true
-unfolding all any first tab repeats dots eq_z eq_v to_ℕ part limits_of time_of dependences_of boundaries_of weights_of padded
-    nest_of empty_nest extent point_count number outside crossed out_of_span backward against holds first_met or_else blanks_of
+unfolding all any first tab repeats dots eq_z eq_v to_ℕ part limits_of time_of dependences_of boundaries_of weights_of
+    padded
+    nest_of empty_nest extent point_count number outside crossed out_of_span backward against holds first_met or_else
+    blanks_of
     all_digits value_of digits_of signed_of read_of is_line numbers_of are_lines line_numbers widths shapes fits
     first_fitting is_headed header_width_of header_numbers headed header_of rest_of is_shaped body_numbers boundaries_in
-    nest_from body_of read_refusal read_nest digits_to numeral_of field_of line differ last_of lines_with text_with bytes lines
+    nest_from body_of read_refusal read_nest digits_to numeral_of field_of line differ last_of lines_with text_with
+    bytes lines
     two_dependences agains is_again flat_map
 agains_are = refl

@@ -1,7 +1,8 @@
 -- Serves the contracts of inner functions alone: the steps of the reader, a line as the code holds
 -- it and the nest as it is filled line by line; and how many boundary values the writer writes.
 -- Assumes nothing.
-use Rattle.std.specs.Prelude.{true, false, ℕ, ◌+◌, ◌*◌, ◌-◌, eqb, leb, ltb, ℤ, pos, length, get_or, take, drop, replicate}
+use Rattle.std.specs.Prelude.{true, false, ℕ, ◌+◌, ◌*◌, ◌-◌, eqb, leb, ltb, ℤ, pos, length, get_or, take, drop}
+use Rattle.std.specs.Prelude.{replicate}
 use mathlib.Core.List.{List, [], ◌++◌, map, flat_map}
 use Rattle.nest.specs.declared.LoopNest.{LoopNest}
 use Rattle.nest.specs.Nest.{padded, empty_nest, max_depth, max_dependences}
@@ -74,7 +75,10 @@ with_line n m k s i row = elim (ltb i n) [
   | true ↦ with_limit_line s i row
   | false ↦ elim (eqb i n) [
     | true ↦ with_time_line s row
-    | false ↦ elim (leb i (n + m)) [ true ↦ with_dependence_line s (i - (n + 1)) row | false ↦ with_last_line m k s row ]
+    | false ↦ elim (leb i (n + m)) [
+      | true ↦ with_dependence_line s (i - (n + 1)) row
+      | false ↦ with_last_line m k s row
+    ]
   ]
 ]
 

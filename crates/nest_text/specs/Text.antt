@@ -1,7 +1,8 @@
 -- The text of a loop nest (document 01, "The sheet"; document 02, U1, for its last line): what is
 -- written for a nest, and what a text is read as, with its refusals in the document's order.
 -- Assumes nothing.
-use Rattle.std.specs.Prelude.{◌≡◌, Bool, true, false, not, ◌&&◌, ℕ, ◌+◌, ◌*◌, ◌-◌, ◌<◌, eqb, ℤ, pos, length, get_or, take, drop, replicate}
+use Rattle.std.specs.Prelude.{◌≡◌, Bool, true, false, not, ◌&&◌, ℕ, ◌+◌, ◌*◌, ◌-◌, ◌<◌, eqb, ℤ, pos, length, get_or}
+use Rattle.std.specs.Prelude.{take, drop, replicate}
 use mathlib.Core.List.{List, [], ◌∷◌, ◌++◌, map, flat_map}
 use Rattle.integers.specs.Lists.{any, first, tab}
 use Rattle.integers.specs.Vector.{eq_z}
@@ -276,8 +277,10 @@ Reads text r = r ≡ record { refusal = read_refusal text; nest = read_nest text
 -- the buffer `new`, which it found as `old`
 abbrev pub Puts : ℕ → Bytes → Bytes → Writing → Bytes → Type 0
 Puts number bytes old r new =
-    (r ≡ record { refusal = write_refusal number bytes (length old); length = written_length number bytes (length old) })
-    × (new ≡ written number bytes old)
+    (r ≡ record {
+      refusal = write_refusal number bytes (length old);
+      length = written_length number bytes (length old);
+    }) × (new ≡ written number bytes old)
 
 -- a call of `write`
 abbrev pub Writes : LoopNest → Bytes → Writing → Bytes → Type 0

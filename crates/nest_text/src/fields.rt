@@ -1,6 +1,7 @@
 // A number in six columns, read and written: spaces, an optional minus, digits; no leading zero and
 // no minus zero.
-ghost use Rattle.std.specs.Prelude.{◌≡◌, ◌&&◌, [], ◌++◌, ◌+◌, ◌<◌, ◌≤◌, ◌%◌, ltb, pos, nat_abs, length, take, drop, replicate};
+ghost use Rattle.std.specs.Prelude.{◌≡◌, ◌&&◌, [], ◌++◌, ◌+◌, ◌<◌, ◌≤◌, ◌%◌, ltb, pos, nat_abs, length, take, drop};
+ghost use Rattle.std.specs.Prelude.{replicate};
 ghost use Rattle.std.specs.Int.Signed.{lt_z};
 ghost use Rattle.nest_text.specs.Fields.{columns, space, zero_digit, seven_digits};
 ghost use Rattle.nest_text.specs.Fields.{no_leading_zero, blanks_of, digits_of, signed_of, read_of};

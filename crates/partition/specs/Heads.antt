@@ -2,7 +2,8 @@
 -- iteration before k on its line; a number that is not below k where there is none, and then k is
 -- the first of its line. So the groups need to be worked out for the first iterations alone; no
 -- answer depends on it. Assumes nothing.
-use Rattle.std.specs.Prelude.{true, false, List, [], ◌∷◌, ◌++◌, map, ℕ, zero, suc, ◌<◌, ◌≤◌, ltb, ℤ, pos, nat_abs, length, get_or}
+use Rattle.std.specs.Prelude.{true, false, List, [], ◌∷◌, ◌++◌, map, ℕ, zero, suc, ◌<◌, ◌≤◌, ltb, ℤ, pos, nat_abs}
+use Rattle.std.specs.Prelude.{length, get_or}
 use Rattle.integers.specs.Vector.{Vector, AllWithin}
 use Rattle.nest.specs.Nest.{padded, max_limit}
 use Rattle.numbering.specs.Limits.{components}

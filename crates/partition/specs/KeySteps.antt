@@ -1,7 +1,8 @@
 -- Serves the code's inner contracts alone: the steps as they are worked out from the keys of the
 -- index points: P·j of each iteration, from the digits of its key, less the least, and how many
 -- numbers below that are some iteration's too. Nothing here knows limits. Assumes nothing.
-use Rattle.std.specs.Prelude.{◌≡◌, List, ◌++◌, ℕ, ◌+◌, ◌*◌, ◌<◌, ◌≤◌, eqb, ℤ, pos, nat_abs, ◌+ℤ◌, length, get_or, take, drop}
+use Rattle.std.specs.Prelude.{◌≡◌, List, ◌++◌, ℕ, ◌+◌, ◌*◌, ◌<◌, ◌≤◌, eqb, ℤ, pos, nat_abs, ◌+ℤ◌, length, get_or, take}
+use Rattle.std.specs.Prelude.{drop}
 use Rattle.integers.specs.Lists.{any, count, one_if, tab}
 use Rattle.integers.specs.Vector.{dots, AllWithin}
 use Rattle.nest.specs.Nest.{to_ℕ, part, max_depth, max_limit, max_component, max_iterations}

@@ -17,7 +17,8 @@ use Rattle.nest.specs.Points.{extent, indices, points, points_of, point_count, r
 use Rattle.nest.specs.Refusals.{number, outside, crossed, out_of_span, backward, against, holds, first_met}
 use Rattle.nest.specs.Refusals.{refusal, or_else}
 use Rattle.nest.specs.Sources.{source_rank}
-use Rattle.nest_text.specs.Fields.{Bytes, blanks_of, all_digits, value_of, digits_of, signed_of, read_of, digits_to, numeral_of}
+use Rattle.nest_text.specs.Fields.{Bytes, blanks_of, all_digits, value_of, digits_of, signed_of, read_of, digits_to}
+use Rattle.nest_text.specs.Fields.{numeral_of}
 use Rattle.nest_text.specs.Fields.{field_of}
 use Rattle.nest_text.specs.Text.{line, differ, last_of, lines_with, text_with, text_of, boundaries_in}
 use Rattle.nest_text.specs.Text.{is_line, numbers_of, are_lines, line_numbers, widths, shapes, fits}
@@ -34,7 +35,8 @@ use Rattle.grouping.specs.Grouping.{chosen_count, latest, coefficients, left, is
 use Rattle.grouping.specs.Grouping.{difference, same_class, coordinates, seeds, eq_g, quotients, class_number, group}
 use Rattle.grouping.specs.Grouping.{blocks, block_number}
 use Rattle.mapping.specs.GrayCodes.{gray_codes}
-use Rattle.mapping.specs.Mapping.{order_in, direction_in, undealt_in, takes_bit, with_bit, no_direction, next_turn, deal_bit}
+use Rattle.mapping.specs.Mapping.{order_in, direction_in, undealt_in, takes_bit, with_bit, no_direction, next_turn}
+use Rattle.mapping.specs.Mapping.{deal_bit}
 use Rattle.mapping.specs.Mapping.{deal_bits, dealt, gray, part_of, joined, processor, directions_of, processors_of}
 use Rattle.mapping.specs.Mapping.{processor_count, crosses, is_message, message_count}
 use Rattle.sequential.specs.Sequential.{source_value, value_of as made_of, loop, sequential, weighted_sum, rule_of}
@@ -385,18 +387,23 @@ table =
 
 pub examples_hold : all (λ c. all (says c.nest) c.facts) table ≡ true
 unfolding any all first place firsts_after firsts count repeats tab greatest first_from dots plus times eq_z eq_v
-    is_zero_v floor_div to_ℕ part limits_of time_of dependences_of boundaries_of weights_of padded nest_of empty_nest extent
+    is_zero_v floor_div to_ℕ part limits_of time_of dependences_of boundaries_of weights_of padded nest_of empty_nest
+    extent
     indices points points_of point_count rank is_point source number outside crossed out_of_span backward against holds
     first_met refusal
-    or_else source_rank blanks_of all_digits value_of digits_of signed_of read_of digits_to numeral_of field_of line differ
+    or_else source_rank blanks_of all_digits value_of digits_of signed_of read_of digits_to numeral_of field_of line
+    differ
     last_of lines_with text_with is_line numbers_of are_lines line_numbers widths shapes fits first_fitting is_headed
     header_width_of header_numbers
-    headed header_of rest_of is_shaped body_numbers boundaries_in nest_from body_of read_refusal read_nest bytes lines projection
+    headed header_of rest_of is_shaped body_numbers boundaries_in nest_from body_of read_refusal read_nest bytes lines
+    projection
     divides makes_whole multiplier group_size least_z distinct_products step step_number pivot clear remainder may_group
     grouping_vector extend chosen_vectors chosen_count latest coefficients left is_combination frame directions
     difference same_class coordinates seeds eq_g quotients class_number group blocks block_number steps_of step_count
-    frame_of groups_of blocks_of block_count order_in greatest_z direction_in undealt_in takes_bit with_bit no_direction next_turn
-    deal_bit deal_bits dealt gray part_of joined processor directions_of processors_of processor_count crosses is_message
+    frame_of groups_of blocks_of block_count order_in greatest_z direction_in undealt_in takes_bit with_bit
+    no_direction next_turn
+    deal_bit deal_bits dealt gray part_of joined processor directions_of processors_of processor_count crosses
+    is_message
     total message_count source_value made_of loop sequential weighted_sum rule_of values_of counts_of row_of plan_lines
     plan_text listing eq_n below is_some pairs says vector nest_with L1 L2 two one ungrouped uneven four_loops four_text
     four_plan four_wide four_full row_of64 gray_codes

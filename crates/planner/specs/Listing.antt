@@ -36,7 +36,8 @@ row_of steps blocks processors values k = pos k ∷ pos (get_or steps k 0) ∷ p
 -- the counts, then for each iteration in loop order rank, step, block, processor, value
 unfoldable pub plan_lines : LoopNest → List (List ℤ)
 plan_lines s =
-    map pos (counts_of s) ∷ tab (row_of (steps_of s) (blocks_of s) (processors_of s) (values_of s)) (length (points_of s))
+    map pos (counts_of s)
+    ∷ tab (row_of (steps_of s) (blocks_of s) (processors_of s) (values_of s)) (length (points_of s))
 
 -- the bytes of those lines
 unfoldable pub plan_text : LoopNest → Bytes

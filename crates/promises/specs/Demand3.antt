@@ -2,7 +2,8 @@
 -- a nest's own plan answers, computes and delivers what document 01's reference machine does, and
 -- ends in the table of the sequential loop. It is said of what calls of the entries answered and
 -- left, with nothing taken from the statement that `execution` proves. Assumes nothing.
-use Rattle.std.specs.Prelude.{◌≡◌, true, false, List, [], ◌∷◌, ◌++◌, map, ◌≢◌, ℕ, ◌+◌, ◌^◌, ◌≤◌, ◌<◌, length, get_or, set}
+use Rattle.std.specs.Prelude.{◌≡◌, true, false, List, [], ◌∷◌, ◌++◌, map, ◌≢◌, ℕ, ◌+◌, ◌^◌, ◌≤◌, ◌<◌, length, get_or}
+use Rattle.std.specs.Prelude.{set}
 use Rattle.nest.specs.declared.LoopNest.{LoopNest}
 use Rattle.nest.specs.Nest.{count_of}
 use Rattle.nest.specs.Points.{points_of}

@@ -4,7 +4,8 @@
 // for each dependence, which only goes forward, finds them in the table of keys.
 #![tactic(auto)]
 
-ghost use Rattle.std.specs.Prelude.{◌≡◌, false, map, ◌++◌, ℕ, ◌+◌, ◌^◌, ◌<◌, ◌≤◌, pos, nat_abs, ◌+ℤ◌, length, get_or, set, drop};
+ghost use Rattle.std.specs.Prelude.{◌≡◌, false, map, ◌++◌, ℕ, ◌+◌, ◌^◌, ◌<◌, ◌≤◌, pos, nat_abs, ◌+ℤ◌, length, get_or};
+ghost use Rattle.std.specs.Prelude.{set, drop};
 ghost use Rattle.std.proofs.lemmas.List.Edits.{sets};
 ghost use Rattle.integers.specs.Lists.{any, place, tab};
 ghost use Rattle.integers.specs.Vector.{eq_z};

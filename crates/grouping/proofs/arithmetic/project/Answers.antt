@@ -26,7 +26,7 @@ p e = e.args.p
 abbrev d : Out → List ℤ
 d e = e.args.d
 
--- P-as-P and P·d are small, so they are read as they are
+-- P·P and P·d are small, so they are read as they are
 s-small : (e : Out) → nat_abs e.inner-s.result ≤ 1024
 s-small e = rw e.inner-s.ensures (dot_within 16 16 (p e) (p e) (omega arith) (omega arith) e.requires.0 e.requires.0)
 
