@@ -1,5 +1,5 @@
-// The entries on numbers and slices, for callers in C and Rust, as a static library.
-// c/rowlock.h has their prototypes, and says what the pointers have to be.
+// The entries on numbers and slices, for callers in C and Rust: the crate rowlock_c exports them, as
+// a static library. c/rowlock.h has their prototypes, and says what the pointers have to be.
 //
 // A nest is lent as its 63 numbers. What an entry answers beside its number (counts, lengths, a
 // span, a nest that was read) is stored through a reference of its own, zeros where the call is
@@ -20,19 +20,17 @@ ghost use Rattle.foreign.specs.Numbers.{nest_in, move_in, span_from, planning_fr
 use foreign::{NUMBERS, made_in, make_move_in, move_in, nest_in, number_of, numbers_of};
 
 // How many counts a plan has.
-const COUNTS: usize = 5;
+pub const COUNTS: usize = 5;
 
 // The number of a nest's first refusal, 2 to 13, or 0.
-#[unsafe(no_mangle)]
-pub extern "C" fn rowlock_check(numbers: &[i64; NUMBERS]) -> u8
+pub fn rowlock_check(numbers: &[i64; NUMBERS]) -> u8
     ensures { Checks (nest_in numbers.now) result }
 {
     nest::check(nest_in(numbers))
 }
 
 // The same, with the number of iterations of an accepted nest; 0 for a refused one.
-#[unsafe(no_mangle)]
-pub extern "C" fn rowlock_inspect(numbers: &[i64; NUMBERS], iterations: &mut usize) -> u8
+pub fn rowlock_inspect(numbers: &[i64; NUMBERS], iterations: &mut usize) -> u8
     ensures { Inspects (nest_in numbers.now)
         (record { refusal = result; iterations = iterations.new }) }
 {
@@ -43,8 +41,7 @@ pub extern "C" fn rowlock_inspect(numbers: &[i64; NUMBERS], iterations: &mut usi
 
 // To how many other blocks a block of a nest's plan sends at most, before it is planned; or the
 // number of the first refusal, 2 to 13, with 0.
-#[unsafe(no_mangle)]
-pub extern "C" fn rowlock_most_receivers(numbers: &[i64; NUMBERS], most: &mut usize) -> u8
+pub fn rowlock_most_receivers(numbers: &[i64; NUMBERS], most: &mut usize) -> u8
     ensures { Bounds (nest_in numbers.now)
         (record { refusal = result; most = most.new }) }
 {
@@ -55,8 +52,7 @@ pub extern "C" fn rowlock_most_receivers(numbers: &[i64; NUMBERS], most: &mut us
 
 // A nest from its text: 0 with the nest, unused places 0; or the number of the first refusal, 1 to
 // 13, with a nest of zeros.
-#[unsafe(no_mangle)]
-pub extern "C" fn rowlock_read(text: &[u8], numbers: &mut [i64; NUMBERS]) -> u8
+pub fn rowlock_read(text: &[u8], numbers: &mut [i64; NUMBERS]) -> u8
     ensures { ReadsInto text.now result numbers.new }
 {
     let reading = nest_text::read(text);
@@ -66,8 +62,7 @@ pub extern "C" fn rowlock_read(text: &[u8], numbers: &mut [i64; NUMBERS]) -> u8
 
 // The text of a nest into a lent buffer, and how many bytes it has; or the number of the first
 // refusal, 2 to 14, with 0 bytes and the buffer as it was.
-#[unsafe(no_mangle)]
-pub extern "C" fn rowlock_write(numbers: &[i64; NUMBERS], out: &mut [u8], bytes: &mut usize) -> u8
+pub fn rowlock_write(numbers: &[i64; NUMBERS], out: &mut [u8], bytes: &mut usize) -> u8
     ensures { Writes (nest_in numbers.now) out.old
         (record { refusal = result; length = bytes.new }) out.new }
 {
@@ -78,8 +73,7 @@ pub extern "C" fn rowlock_write(numbers: &[i64; NUMBERS], out: &mut [u8], bytes:
 
 // Where the row of an outermost index lies in a table of so many entries, by its start and its
 // length; or the number of the first refusal, 2 to 14, then 19, with zeros.
-#[unsafe(no_mangle)]
-pub extern "C" fn rowlock_locate(
+pub fn rowlock_locate(
     numbers: &[i64; NUMBERS],
     entries: usize,
     index: i64,
@@ -94,8 +88,7 @@ pub extern "C" fn rowlock_locate(
 
 // The values of the sequential loop into a lent table; or the number of the first refusal, 2 to 14,
 // with the table as it was.
-#[unsafe(no_mangle)]
-pub extern "C" fn rowlock_fill(numbers: &[i64; NUMBERS], values: &mut [u16]) -> u8
+pub fn rowlock_fill(numbers: &[i64; NUMBERS], values: &mut [u16]) -> u8
     ensures { Fills (nest_in numbers.now) values.old result values.new }
 {
     sequential::fill(nest_in(numbers), values)
@@ -104,8 +97,7 @@ pub extern "C" fn rowlock_fill(numbers: &[i64; NUMBERS], values: &mut [u16]) -> 
 // The plan of a nest into four lent tables, and its counts (iterations, steps, blocks, processors
 // that hold an iteration, messages); or the number of the first refusal, 2 to 14, with every count
 // 0 and the tables as they were.
-#[unsafe(no_mangle)]
-pub extern "C" fn rowlock_plan(
+pub fn rowlock_plan(
     numbers: &[i64; NUMBERS],
     steps: &mut [u32],
     blocks: &mut [u16],
@@ -131,8 +123,7 @@ pub extern "C" fn rowlock_plan(
 
 // The plan of a nest as text, from the nest's text into a lent buffer, and how many bytes it has;
 // or the number of the first refusal, 1 to 14, with 0 bytes and the buffer as it was.
-#[unsafe(no_mangle)]
-pub extern "C" fn rowlock_list(text: &[u8], out: &mut [u8], bytes: &mut usize) -> u8
+pub fn rowlock_list(text: &[u8], out: &mut [u8], bytes: &mut usize) -> u8
     ensures { Lists text.now out.old
         (record { refusal = result; length = bytes.new }) out.new }
 {
@@ -147,8 +138,7 @@ pub extern "C" fn rowlock_list(text: &[u8], out: &mut [u8], bytes: &mut usize) -
 // Answers 0, or the number of the refusal, 2 to 18, with no buffer of the state changed. `made` has
 // the rank and the value of the iteration computed, or the rank and the dependence number of the
 // message delivered; zeros where refused.
-#[unsafe(no_mangle)]
-pub extern "C" fn rowlock_move(
+pub fn rowlock_move(
     numbers: &[i64; NUMBERS],
     kind: usize,
     first: usize,
