@@ -1,12 +1,15 @@
 // The planning program: reads the text of a loop nest from standard input and prints its plan, or
 // the number of the first refusal alone (document 01, "A listing in full").
-ghost use Rattle.std.specs.Prelude.{◌≡◌, List, [], ◌∷◌, ℕ, ◌≤◌, pos, length, take};
-ghost use Rattle.io.specs.Counts.{IsPrefixLen};
+#![tactic(auto)]
+
+ghost use Rattle.std.specs.Prelude.{◌≡◌, List, [], ◌∷◌, ℕ, ◌≤◌, pos, length, take, IfOk};
+ghost use Rattle.std.specs.Counts.{IsPrefixLen};
 ghost use Rattle.nest_text.specs.Text.{line, read_most};
 ghost use Rattle.nest_text.specs.Stored.{Stored};
 ghost use Rattle.planner.specs.Listing.{listing, listing_most};
 
-use libc::{STDIN_FILENO, STDOUT_FILENO};
+use std::io;
+use std::io::{Read, Write};
 
 // one byte more than the longest text that is accepted: what is read decides every input
 const MOST_READ: usize = 394;
@@ -46,10 +49,25 @@ fn put_listing(text: &[u8], out: &mut [u8]) -> usize
     answer.length
 }
 
-fn main() {
+// Reads until the buffer is full or the input ends; answers how many bytes that is.
+fn read_full<R: Read>(input: &mut R, buffer: &mut [u8]) -> io::Result<usize>
+    ensures { IfOk result (λ n. IsPrefixLen n buffer.new) }
+{
+    let mut filled = 0;
+    while filled < buffer.len() {
+        let more = input.read(&mut buffer[filled..])?;
+        if more == 0 {
+            break;
+        }
+        filled += more;
+    }
+    Ok(filled)
+}
+
+fn main(rt: HostRuntime) -> io::Result<()> {
     let mut text = input_buffer();
-    let given = io::read_full(STDIN_FILENO, &mut text);
+    let given = read_full(&mut rt.stdin(), &mut text)?;
     let mut out = [0u8; MOST_PRINTED];
     let length = put_listing(&text[..given], &mut out);
-    io::write_all(STDOUT_FILENO, &out[..length]);
+    rt.stdout().write_all(&out[..length])
 }
