@@ -2,8 +2,9 @@
 // the number of the first refusal alone (document 01, "A listing in full").
 #![tactic(auto)]
 
-ghost use Rattle.std.specs.Prelude.{◌≡◌, List, [], ◌∷◌, ℕ, ◌≤◌, pos, length, take, IfOk};
+ghost use Rattle.std.specs.Prelude.{◌≡◌, List, [], ◌∷◌, ℕ, ◌≤◌, pos, length, take, IfOk, IfSome, OnOk};
 ghost use Rattle.std.specs.Counts.{IsPrefixLen};
+ghost use Rattle.std.specs.Io.KnownBytes.{Appends};
 ghost use Rattle.nest_text.specs.Text.{line, read_most};
 ghost use Rattle.nest_text.specs.Stored.{Stored};
 ghost use Rattle.planner.specs.Listing.{listing, listing_most};
@@ -49,9 +50,12 @@ fn put_listing(text: &[u8], out: &mut [u8]) -> usize
     answer.length
 }
 
-// Reads until the buffer is full or the input ends; answers how many bytes that is.
+// Reads until the buffer is full or the input ends; answers how many bytes that is. They are the
+// first of the input.
 fn read_full<R: Read>(input: &mut R, buffer: &mut [u8]) -> io::Result<usize>
-    ensures { IfOk result (λ n. IsPrefixLen n buffer.new) }
+    ensures prefix_len { IfOk result (λ n. IsPrefixLen n buffer.new) }
+    ensures bytes { IfOk result (λ n. IfSome (R.remaining input.old)
+        (λ text. take n buffer.new ≡ take (length buffer.new) text)) }
 {
     let mut filled = 0;
     while filled < buffer.len() {
@@ -64,10 +68,18 @@ fn read_full<R: Read>(input: &mut R, buffer: &mut [u8]) -> io::Result<usize>
     Ok(filled)
 }
 
-fn main(rt: HostRuntime) -> io::Result<()> {
+// Writes what is printed for the whole text that is on `input`, and nothing else.
+fn print_listing<R: Read, W: Write>(input: &mut R, output: &mut W) -> io::Result<()>
+    ensures { OnOk result (IfSome (R.remaining input.old)
+        (λ text. Appends (W.contents output.old) (W.contents output.new) (listing text))) }
+{
     let mut text = input_buffer();
-    let given = read_full(&mut rt.stdin(), &mut text)?;
+    let given = read_full(input, &mut text)?;
     let mut out = [0u8; MOST_PRINTED];
     let length = put_listing(&text[..given], &mut out);
-    rt.stdout().write_all(&out[..length])
+    output.write_all(&out[..length])
+}
+
+fn main(rt: HostRuntime) -> io::Result<()> {
+    print_listing(&mut rt.stdin(), &mut rt.stdout())
 }
