@@ -14,16 +14,14 @@ small c = (omega arith, tt)
 pub put_line-requires : goal.put_line-requires
 unfolding tab
 put_line-requires c =
-    let a = c in
-    let xs = a.args.x ∷ [] in
-    let h = nth_small xs (small (goal.at.put_line-requires a).Start) in
+    let xs = c.args.x ∷ [] in
+    let h = nth_small xs (small (goal.at.put_line-requires c).Start) in
     (omega arith, (omega arith, counts_fit xs 1 refl h (held xs 1 refl h)))
 
 pub returns : goal.returns
 unfolding tab
 returns c =
-    let a = c in
-    let xs = a.args.x ∷ [] in
-    let h = nth_small xs (small (goal.at.returns a).Start) in
+    let xs = c.args.x ∷ [] in
+    let h = nth_small xs (small (goal.at.returns c).Start) in
     let S = counts-stored xs 1 refl h (held xs 1 refl h) c.put_line.ensures in
     (omega (arith, S.ends, counts-length xs 1 refl h), S)
