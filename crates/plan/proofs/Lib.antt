@@ -1,3 +1,4 @@
 -- What the program prints, and that the bytes it reads decide every input.
 pub mod Input
 pub mod Printed
+pub mod Reading

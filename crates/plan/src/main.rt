@@ -1,12 +1,16 @@
 // The planning program: reads the text of a loop nest from standard input and prints its plan, or
 // the number of the first refusal alone (document 01, "A listing in full").
-ghost use Rattle.std.specs.Prelude.{◌≡◌, List, [], ◌∷◌, ℕ, ◌≤◌, pos, length, take};
-ghost use Rattle.io.specs.Counts.{IsPrefixLen};
+#![tactic(auto)]
+
+ghost use Rattle.std.specs.Prelude.{◌≡◌, List, [], ◌∷◌, ℕ, ◌≤◌, pos, length, take, IfOk, IfSome, OnOk};
+ghost use Rattle.std.specs.Counts.{IsPrefixLen};
+ghost use Rattle.std.specs.Io.KnownBytes.{Appends};
 ghost use Rattle.nest_text.specs.Text.{line, read_most};
 ghost use Rattle.nest_text.specs.Stored.{Stored};
 ghost use Rattle.planner.specs.Listing.{listing, listing_most};
 
-use libc::{STDIN_FILENO, STDOUT_FILENO};
+use std::io;
+use std::io::{Read, Write};
 
 // one byte more than the longest text that is accepted: what is read decides every input
 const MOST_READ: usize = 394;
@@ -46,10 +50,36 @@ fn put_listing(text: &[u8], out: &mut [u8]) -> usize
     answer.length
 }
 
-fn main() {
+// Reads until the buffer is full or the input ends; answers how many bytes that is. They are the
+// first of the input.
+fn read_full<R: Read>(input: &mut R, buffer: &mut [u8]) -> io::Result<usize>
+    ensures prefix_len { IfOk result (λ n. IsPrefixLen n buffer.new) }
+    ensures bytes { IfOk result (λ n. IfSome (R.remaining input.old)
+        (λ text. take n buffer.new ≡ take (length buffer.new) text)) }
+{
+    let mut filled = 0;
+    while filled < buffer.len() {
+        let more = input.read(&mut buffer[filled..])?;
+        if more == 0 {
+            break;
+        }
+        filled += more;
+    }
+    Ok(filled)
+}
+
+// Writes what is printed for the whole text that is on `input`, and nothing else.
+fn print_listing<R: Read, W: Write>(input: &mut R, output: &mut W) -> io::Result<()>
+    ensures { OnOk result (IfSome (R.remaining input.old)
+        (λ text. Appends (W.contents output.old) (W.contents output.new) (listing text))) }
+{
     let mut text = input_buffer();
-    let given = io::read_full(STDIN_FILENO, &mut text);
+    let given = read_full(input, &mut text)?;
     let mut out = [0u8; MOST_PRINTED];
     let length = put_listing(&text[..given], &mut out);
-    io::write_all(STDOUT_FILENO, &out[..length]);
+    output.write_all(&out[..length])
+}
+
+fn main(rt: HostRuntime) -> io::Result<()> {
+    print_listing(&mut rt.stdin(), &mut rt.stdout())
 }
