@@ -1,5 +1,5 @@
-// The entries on numbers and slices, for callers in C and Rust: the crate rowlock_c exports them, as
-// a static library. c/rowlock.h has their prototypes, and says what the pointers have to be.
+// The entries on numbers and slices, for callers in C and Rust: the crate rowlock_c exports them,
+// as a static library. c/rowlock.h has their prototypes, and says what the pointers have to be.
 //
 // A nest is lent as its 63 numbers. What an entry answers beside its number (counts, lengths, a
 // span, a nest that was read) is stored through a reference of its own, zeros where the call is
