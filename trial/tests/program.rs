@@ -223,6 +223,8 @@ fn through_a_symbolic_link_from_another_folder() {
     symlink(fs::canonicalize(root().join("plan")).expect("./plan"), &link).expect("a link");
     fs::copy(root().join("examples/P2.txt"), &sheet).expect("a copy");
     let output = Command::new("./plan").arg("a sheet.txt").current_dir(&folder).output();
+    // `rt ci` refuses a checkout with a link in it, so the next run of the gate would
+    fs::remove_file(&link).expect("the link goes");
     assert_planned(&output.expect("./plan starts"), &fs::read(&sheet).expect("it"), "linked");
 }
 
