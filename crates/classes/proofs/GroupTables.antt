@@ -1,22 +1,22 @@
--- A flat table of groups, written from the front: the invariant of the loop over the points, and a turn. Assumes nothing.
+-- A table of groups, written from the front: the invariant of the loop over the points, and a turn. Assumes nothing.
 use mathlib.Core.Path.{◌≡◌, refl, sym, ap, ◌∙◌, subst}
 use mathlib.Core.Bool.{Bool, true}
 use mathlib.Core.Logic.{◌⊎◌, inl, inr}
 use mathlib.Core.List.{List, [], map}
-use Prim.Native.Nat.{ℕ, ◌+◌, ◌*◌, ◌<◌, ◌≤◌}
+use Prim.Native.Nat.{ℕ, ◌+◌, ◌<◌, ◌≤◌}
 use native.Mathlib.Nat as NatL
 use native.Mathlib.Omega.{arith}
-use lib.IntN.{ℤ, pos}
+use lib.IntN.{ℤ}
 use Rattle.integers.proofs.ListFacts.{get_d_default, place_true}
 use Rattle.integers.specs.Vector.{AllWithin, Vector}
-use lib.ListN.{length, get_or, take, set, replicate, length-replicate}
+use lib.ListN.{length, get_or, take, set, length-set, replicate, length-replicate}
 use lib.Seq.{get_or-set_same, get_or-set_other}
 use Rattle.integers.specs.Lists.{place, firsts}
 use Rattle.grouping.specs.Grouping.{Frame, same_class, seeds, class_number, directions, difference}
-use Rattle.numbering.specs.Tables.{row, rows, put_row}
+use Rattle.numbering.specs.Tables.{row, rows}
 use Rattle.grouping.specs.Basis.{GroupedAs, Grouped, basis_frame_by, in_one_class_by, residues_by, ClassRowsBy}
-use Rattle.numbering.proofs.TableRows.{length-heads, head_at, put_other, put_length, put_row_lem, row_other}
-use Rattle.numbering.proofs.Table.{Numbered, numbered-start, numbered_more, number-most, numbered-number}
+use Rattle.numbering.proofs.TableRows.{length-heads, head_at}
+use Rattle.numbering.proofs.Table.{Reflexive, Numbered, numbered-start, numbered_seen, numbered_new, heads-count, number-most, numbered-number}
 
 -- ---- the invariant
 
@@ -25,121 +25,158 @@ abbrev pub blank : List ℕ
 blank = replicate 4096 0
 
 -- after i points: the first of each class, in `heads`, and the group of each point, in a row of `table`
-pub record GroupsTo (same : Vector → Vector → Bool) (F : Frame) (count : ℕ) (t table₀ table : List ℤ) (heads : List ℕ) (k i : ℕ) : Type 0 where
+pub record GroupsTo (same : Vector → Vector → Bool) (F : Frame) (count : ℕ) (t table₀ table : List Vector) (heads : List ℕ) (k i : ℕ) : Type 0 where
   -- the class numbers so far
   pub out : List ℕ
   pub num : Numbered same t blank out heads k i
   pub low : (j : ℕ) → j < i → get_or out j 0 < k
   pub grouped : (j : ℕ) → j < i → GroupedAs F count (get_or out j 0) (row t j) (row t (get_or heads (get_or out j 0) 0)) (row table j)
-  pub rest : (a : ℕ) → i * 4 ≤ a → get_or table a (pos 0) ≡ get_or table₀ a (pos 0)
+  pub rest : (j : ℕ) → i ≤ j → row table j ≡ row table₀ j
   pub size : length table ≡ length table₀
   pub within : (j : ℕ) → j < i → AllWithin 1000000000 (row table j)
 
 -- before the first point
-pub groups-start : (same : Vector → Vector → Bool) (F : Frame) (count : ℕ) (t table : List ℤ) (heads : List ℕ) → GroupsTo same F count t table table heads 0 0
+pub groups-start : (same : Vector → Vector → Bool) (F : Frame) (count : ℕ) (t table : List Vector) (heads : List ℕ) → GroupsTo same F count t table table heads 0 0
 groups-start same F count t table heads =
-    record { out = blank; num = numbered-start same t blank heads; low = λ j l. absurd (omega arith); grouped = λ j l. absurd (omega arith); rest = λ a l. refl; size = refl; within = λ j l. absurd (omega arith) }
+    record { out = blank; num = numbered-start same t blank heads; low = λ j l. absurd (omega arith); grouped = λ j l. absurd (omega arith); rest = λ j l. refl; size = refl; within = λ j l. absurd (omega arith) }
 
-module _ (same : Vector → Vector → Bool) (self : (y : Vector) → length y ≡ 4 → same y y ≡ true) (F : Frame) (count : ℕ) (t table₀ table : List ℤ) (heads : List ℕ) (k i c : ℕ)
-    (K : GroupsTo same F count t table₀ table heads k i) (room : k < length heads) (short : i < 4096) (at : c ≡ place (same (row t i)) (map (row t) (take k heads))) where
+-- what a turn does to the heads, for a point of class c: it is the head of a new class, or the class has one
+abbrev pub Headed : List ℕ → ℕ → ℕ → ℕ → List ℕ → ℕ → ℕ → Type 0
+Headed heads k i c heads' k' head = ((c ≡ k) × (heads' ≡ set heads k i) × (k' ≡ k + 1) × (head ≡ i)) ⊎ ((c ≡ k → ⊥) × (heads' ≡ heads) × (k' ≡ k) × (head ≡ get_or heads c 0))
+
+module _ (same : Vector → Vector → Bool) (F : Frame) (count : ℕ) (t table₀ table : List Vector) (self : Reflexive same t) (heads : List ℕ) (k i c : ℕ)
+    (K : GroupsTo same F count t table₀ table heads k i) (room : k < length heads) (low : i < length t) (short : i < 4096) (at : c ≡ place (same (row t i)) (firsts same (rows t i))) where
   -- there is a number for point i
   long : i < length blank
   long = subst (λ (n : ℕ). i < n) (sym (length-replicate {A = ℕ} 4096 0)) short
 
   -- its class is one of those so far, or the next
   pub class-most : c ≤ k
-  class-most = number-most same self t blank K.out heads k i c K.num room long at
+  class-most = number-most same t self blank K.out heads k i c K.num room low long at
 
-  -- the head of the class of point i, and that they are in one class
-  pub head-low : get_or (set heads k i) c 0 ≤ i
-  head-low = pick (NatL.eq-or-lt_of_le class-most)
-    where
-      pick : (c ≡ k) ⊎ (c < k) → get_or (set heads k i) c 0 ≤ i
-      pick (inl e) = subst (λ (n : ℕ). n ≤ i) (sym (ap (λ (b : ℕ). get_or (set heads k i) b 0) e ∙ get_or-set_same heads k i 0 room)) (NatL.le_refl i)
-      pick (inr l) = let h = K.num.below c l in subst (λ (n : ℕ). n ≤ i) (sym (get_or-set_other heads k c i 0 (NatL.ne_of_lt l))) (NatL.le_of_lt h)
+  -- a class that is not new has a head, in that class
+  pub head-low : (c ≡ k → ⊥) → get_or heads c 0 < i
+  head-low n = K.num.below c (omega (arith, class-most, n))
 
-  pub head-same : same (row t i) (row t (get_or (set heads k i) c 0)) ≡ true
-  head-same = pick (NatL.eq-or-lt_of_le class-most)
+  head-same : c < k → same (row t i) (row t (get_or heads c 0)) ≡ true
+  head-same l =
+      ap (same (row t i)) (sym (head_at t heads k c l) ∙ ap (λ (hs : List Vector). get_or hs c (row t 0)) K.num.heads_are) ∙ ap (λ (b : ℕ). same (row t i) (get_or H b (row t 0))) at
+      ∙ place_true (row t 0) (same (row t i)) H (subst (λ (n : ℕ). n < length H) at (subst (λ (n : ℕ). c < n) (heads-count same t blank K.out heads k i K.num (NatL.le_of_lt room)) l))
     where
       H : List Vector
-      H = map (row t) (take k heads)
+      H = firsts same (rows t i)
 
-      pick : (c ≡ k) ⊎ (c < k) → same (row t i) (row t (get_or (set heads k i) c 0)) ≡ true
-      pick (inl e) = ap (λ (n : ℕ). same (row t i) (row t n)) (ap (λ (b : ℕ). get_or (set heads k i) b 0) e ∙ get_or-set_same heads k i 0 room) ∙ self (row t i) refl
-      pick (inr l) =
-          ap (λ (n : ℕ). same (row t i) (row t n)) (get_or-set_other heads k c i 0 (NatL.ne_of_lt l))
-          ∙ ap (same (row t i)) (sym (head_at t heads k c l)) ∙ ap (λ (b : ℕ). same (row t i) (get_or (map (row t) (take k heads)) b (row t 0))) at
-          ∙ place_true (row t 0) (same (row t i)) (map (row t) (take k heads)) (subst (λ (n : ℕ). place (same (row t i)) (map (row t) (take k heads)) < n) (sym (length-heads t heads k (NatL.le_of_lt room))) (subst (λ (n : ℕ). n < k) at l))
+  module _ (heads' : List ℕ) (k' head : ℕ) (D : Headed heads k i c heads' k' head) where
+    -- the head of the class
+    pub head-least : head ≤ i
+    head-least = go D
+      where
+        go : Headed heads k i c heads' k' head → head ≤ i
+        go (inl e) = omega (arith, e.3)
+        go (inr e) = omega (arith, e.3, head-low e.0)
 
-  -- one point more
-  pub groups-more : (k' : ℕ) → (c ≡ k → k' ≡ k + 1) → ((c ≡ k → ⊥) → k' ≡ k) → (g : Vector) → i * 4 + 4 ≤ length table → AllWithin 1000000000 g → GroupedAs F count c (row t i) (row t (get_or (set heads k i) c 0)) g
-      → GroupsTo same F count t table₀ (put_row table i g) (set heads k i) k' (i + 1)
-  groups-more k' one stay g fits wg G =
-      record {
-        out = set K.out i c;
-        num = numbered_more same self t blank K.out heads k i c K.num room long at k' one stay;
-        low = λ j l. low' j (below j l);
-        grouped = λ j l. grouped' j (below j l);
-        rest = λ a l. put_other table i g a (λ q. absurd (omega arith)) (λ q. absurd (omega arith)) (λ q. absurd (omega arith)) (λ q. absurd (omega arith)) ∙ K.rest a (omega arith);
-        size = put_length table i g ∙ K.size;
-        within = λ j l. within' j (below j l);
-      }
-    where
-      below : (j : ℕ) → j < i + 1 → (j ≡ i) ⊎ (j < i)
-      below j l = NatL.eq-or-lt_of_le (omega arith)
+    pub head_one : same (row t i) (row t head) ≡ true
+    head_one = go D
+      where
+        go : Headed heads k i c heads' k' head → same (row t i) (row t head) ≡ true
+        go (inl e) = ap (λ (n : ℕ). same (row t i) (row t n)) e.3 ∙ self i low
+        go (inr e) = ap (λ (n : ℕ). same (row t i) (row t n)) e.3 ∙ head-same (omega (arith, class-most, e.0))
 
-      wide : i < length K.out
-      wide = subst (λ (n : ℕ). i < n) (sym K.num.size) long
+    pub heads_long : length heads' ≡ length heads
+    heads_long = go D
+      where
+        go : Headed heads k i c heads' k' head → length heads' ≡ length heads
+        go (inl e) = ap (λ (u : List ℕ). length u) e.1 ∙ length-set heads k i
+        go (inr e) = ap (λ (u : List ℕ). length u) e.1
 
-      more : k ≤ k'
-      more = pick (NatL.eq-or-lt_of_le class-most)
-        where
-          pick : (c ≡ k) ⊎ (c < k) → k ≤ k'
-          pick (inl e) = let h = one e in omega arith
-          pick (inr l) = let h = stay (NatL.ne_of_lt l) in omega arith
+    -- one point more
+    pub groups-more : (g : Vector) → i < length table → AllWithin 1000000000 g → GroupedAs F count c (row t i) (row t head) g → GroupsTo same F count t table₀ (set table i g) heads' k' (i + 1)
+    groups-more g fits wg G =
+        record {
+          out = set K.out i c;
+          num = num D;
+          low = λ j l. low' j (below j l);
+          grouped = λ j l. grouped' j (below j l);
+          rest = λ j l. apart j (λ e. absurd (omega (arith, e, l))) ∙ K.rest j (omega (arith, l));
+          size = length-set table i g ∙ K.size;
+          within = λ j l. within' j (below j l);
+        }
+      where
+        below : (j : ℕ) → j < i + 1 → (j ≡ i) ⊎ (j < i)
+        below j l = NatL.eq-or-lt_of_le (omega arith)
 
-      last : c < k'
-      last = pick (NatL.eq-or-lt_of_le class-most)
-        where
-          pick : (c ≡ k) ⊎ (c < k) → c < k'
-          pick (inl e) = let h = one e in omega arith
-          pick (inr l) = let h = stay (NatL.ne_of_lt l) in omega arith
+        wide : i < length K.out
+        wide = subst (λ (n : ℕ). i < n) (sym K.num.size) long
 
-      here : get_or (set K.out i c) i 0 ≡ c
-      here = get_or-set_same K.out i c 0 wide
+        num : Headed heads k i c heads' k' head → Numbered same t blank (set K.out i c) heads' k' (i + 1)
+        num (inl e) = rw (e.1, e.2) (numbered_new same t self blank K.out heads k i c K.num room low long at e.0)
+        num (inr e) = rw (e.1, e.2) (numbered_seen same t self blank K.out heads k i c K.num room low long at (omega (arith, class-most, e.0)))
 
-      there : (j : ℕ) → j < i → get_or (set K.out i c) j 0 ≡ get_or K.out j 0
-      there j l = get_or-set_other K.out i j c 0 (NatL.ne_of_lt l)
+        -- there is a head for each class
+        more : (b : ℕ) → b < k → b < k'
+        more b l = go D
+          where
+            go : Headed heads k i c heads' k' head → b < k'
+            go (inl e) = omega (arith, l, e.2)
+            go (inr e) = omega (arith, l, e.2)
 
-      low' : (j : ℕ) → (j ≡ i) ⊎ (j < i) → get_or (set K.out i c) j 0 < k'
-      low' j (inl e) = subst (λ (n : ℕ). n < k') (sym (ap (λ (b : ℕ). get_or (set K.out i c) b 0) e ∙ here)) last
-      low' j (inr l) = subst (λ (n : ℕ). n < k') (sym (there j l)) (NatL.le_trans (K.low j l) more)
+        last : c < k'
+        last = go D
+          where
+            go : Headed heads k i c heads' k' head → c < k'
+            go (inl e) = omega (arith, e.0, e.2)
+            go (inr e) = omega (arith, class-most, e.0, e.2)
 
-      grouped' : (j : ℕ) → (j ≡ i) ⊎ (j < i) → GroupedAs F count (get_or (set K.out i c) j 0) (row t j) (row t (get_or (set heads k i) (get_or (set K.out i c) j 0) 0)) (row (put_row table i g) j)
-      grouped' j (inl e) =
-          subst (λ (b : ℕ). GroupedAs F count (get_or (set K.out i c) b 0) (row t b) (row t (get_or (set heads k i) (get_or (set K.out i c) b 0) 0)) (row (put_row table i g) b)) (sym e)
-          (subst (λ (v : Vector). GroupedAs F count (get_or (set K.out i c) i 0) (row t i) (row t (get_or (set heads k i) (get_or (set K.out i c) i 0) 0)) v) (sym (put_row_lem table i g fits G.length_is))
-          (subst (λ (b : ℕ). GroupedAs F count b (row t i) (row t (get_or (set heads k i) b 0)) g) (sym here) G))
-      grouped' j (inr l) =
-          subst (λ (v : Vector). GroupedAs F count (get_or (set K.out i c) j 0) (row t j) (row t (get_or (set heads k i) (get_or (set K.out i c) j 0) 0)) v) (sym (row_other table i j g l))
-          (subst (λ (b : ℕ). GroupedAs F count b (row t j) (row t (get_or (set heads k i) b 0)) (row table j)) (sym (there j l))
-          (subst (λ (b : ℕ). GroupedAs F count (get_or K.out j 0) (row t j) (row t b) (row table j)) (sym (get_or-set_other heads k (get_or K.out j 0) i 0 (NatL.ne_of_lt (K.low j l)))) (K.grouped j l)))
+        -- those that stood stand, and that of point i is its head
+        stay : (b : ℕ) → b < k → get_or heads' b 0 ≡ get_or heads b 0
+        stay b l = go D
+          where
+            go : Headed heads k i c heads' k' head → get_or heads' b 0 ≡ get_or heads b 0
+            go (inl e) = ap (λ (u : List ℕ). get_or u b 0) e.1 ∙ get_or-set_other heads k b i 0 (NatL.ne_of_lt l)
+            go (inr e) = ap (λ (u : List ℕ). get_or u b 0) e.1
 
-      within' : (j : ℕ) → (j ≡ i) ⊎ (j < i) → AllWithin 1000000000 (row (put_row table i g) j)
-      within' j (inl e) = subst (λ (b : ℕ). AllWithin 1000000000 (row (put_row table i g) b)) (sym e) (subst (AllWithin 1000000000) (sym (put_row_lem table i g fits G.length_is)) wg)
-      within' j (inr l) = subst (AllWithin 1000000000) (sym (row_other table i j g l)) (K.within j l)
+        mine : get_or heads' c 0 ≡ head
+        mine = go D
+          where
+            go : Headed heads k i c heads' k' head → get_or heads' c 0 ≡ head
+            go (inl e) = ap (λ (u : List ℕ). get_or u c 0) e.1 ∙ ap (λ (b : ℕ). get_or (set heads k i) b 0) e.0 ∙ get_or-set_same heads k i 0 room ∙ sym e.3
+            go (inr e) = ap (λ (u : List ℕ). get_or u c 0) e.1 ∙ sym e.3
+
+        here : get_or (set K.out i c) i 0 ≡ c
+        here = get_or-set_same K.out i c 0 wide
+
+        there : (j : ℕ) → j < i → get_or (set K.out i c) j 0 ≡ get_or K.out j 0
+        there j l = get_or-set_other K.out i j c 0 (NatL.ne_of_lt l)
+
+        put : row (set table i g) i ≡ g
+        put = get_or-set_same table i g [] fits
+
+        apart : (j : ℕ) → (j ≡ i → ⊥) → row (set table i g) j ≡ row table j
+        apart j n = get_or-set_other table i j g [] n
+
+        low' : (j : ℕ) → (j ≡ i) ⊎ (j < i) → get_or (set K.out i c) j 0 < k'
+        low' j (inl e) = subst (λ (n : ℕ). n < k') (sym (ap (λ (b : ℕ). get_or (set K.out i c) b 0) e ∙ here)) last
+        low' j (inr l) = subst (λ (n : ℕ). n < k') (sym (there j l)) (more (get_or K.out j 0) (K.low j l))
+
+        grouped' : (j : ℕ) → (j ≡ i) ⊎ (j < i) → GroupedAs F count (get_or (set K.out i c) j 0) (row t j) (row t (get_or heads' (get_or (set K.out i c) j 0) 0)) (row (set table i g) j)
+        grouped' j (inl e) = rw (e, here, mine, put) G
+        grouped' j (inr l) = rw (there j l, stay (get_or K.out j 0) (K.low j l), apart j (NatL.ne_of_lt l)) (K.grouped j l)
+
+        within' : (j : ℕ) → (j ≡ i) ⊎ (j < i) → AllWithin 1000000000 (row (set table i g) j)
+        within' j (inl e) = subst (AllWithin 1000000000) (sym (ap (row (set table i g)) e ∙ put)) wg
+        within' j (inr l) = subst (AllWithin 1000000000) (sym (apart j (NatL.ne_of_lt l))) (K.within j l)
 
 -- ---- the end
 
 -- the group in each row is relative to the first point of its class
-groups-same : (same : Vector → Vector → Bool) (F : Frame) (count : ℕ) (t table₀ table : List ℤ) (heads : List ℕ) (k n : ℕ) → GroupsTo same F count t table₀ table heads k n → k ≤ length heads → (j : ℕ) → j < n
+groups-same : (same : Vector → Vector → Bool) (F : Frame) (count : ℕ) (t table₀ table : List Vector) (heads : List ℕ) (k n : ℕ) → GroupsTo same F count t table₀ table heads k n → k ≤ length heads → n ≤ length t → (j : ℕ) → j < n
     → GroupedAs F count (place (same (row t j)) (firsts same (rows t n))) (row t j) (get_or (firsts same (rows t n)) (place (same (row t j)) (firsts same (rows t n))) []) (row table j)
-groups-same same F count t table₀ table heads k n K room j l =
+groups-same same F count t table₀ table heads k n K room wide j l =
     subst (λ (b : ℕ). GroupedAs F count b (row t j) (get_or (firsts same (rows t n)) b []) (row table j)) number
     (subst (λ (v : Vector). GroupedAs F count (get_or K.out j 0) (row t j) v (row table j)) seed (K.grouped j l))
   where
     number : get_or K.out j 0 ≡ place (same (row t j)) (firsts same (rows t n))
-    number = numbered-number same t blank K.out heads k n K.num j l
+    number = numbered-number same t blank K.out heads k n K.num wide j l
 
     seed : row t (get_or heads (get_or K.out j 0) 0) ≡ get_or (firsts same (rows t n)) (get_or K.out j 0) []
     seed =
@@ -153,50 +190,43 @@ unfolding same_class directions difference
 size-free P a b c count r = refl
 
 -- after the last point every row is a group
-pub groups_end : (P a b c : Vector) (count r : ℕ) (t table₀ table : List ℤ) (heads : List ℕ) (k i n : ℕ) → GroupsTo (in_one_class_by P count a b c) (basis_frame_by P count a b c r) count t table₀ table heads k i
-    → k ≤ length heads → i ≡ n → Grouped (basis_frame_by P count a b c r) count t n table₀ table
+pub groups_end : (P a b c : Vector) (count r : ℕ) (t table₀ table : List Vector) (heads : List ℕ) (k n : ℕ) → GroupsTo (in_one_class_by P count a b c) (basis_frame_by P count a b c r) count t table₀ table heads k n
+    → k ≤ length heads → n ≤ length t → Grouped (basis_frame_by P count a b c r) count t n table₀ table
 unfolding class_number seeds
-groups_end P a b c count r t table₀ table heads k i n K₀ room e =
+groups_end P a b c count r t table₀ table heads k n K₀ room wide =
     record {
-      grouped = groups-same (same_class (basis_frame_by P count a b c r)) (basis_frame_by P count a b c r) count t table₀ table heads k n K room;
+      grouped = groups-same (same_class (basis_frame_by P count a b c r)) (basis_frame_by P count a b c r) count t table₀ table heads k n K room wide;
       rest = K.rest;
       size = K.size;
       within = K.within;
     }
   where
     K : GroupsTo (same_class (basis_frame_by P count a b c r)) (basis_frame_by P count a b c r) count t table₀ table heads k n
-    K =
-        subst (λ (m : ℕ). GroupsTo (same_class (basis_frame_by P count a b c r)) (basis_frame_by P count a b c r) count t table₀ table heads k m) e
-        (subst (λ (s : Vector → Vector → Bool). GroupsTo s (basis_frame_by P count a b c r) count t table₀ table heads k i) (size-free P a b c count r) K₀)
+    K = subst (λ (s : Vector → Vector → Bool). GroupsTo s (basis_frame_by P count a b c r) count t table₀ table heads k n) (size-free P a b c count r) K₀
 
 -- ---- the residues of the points, written from the front
 
--- none yet
-pub class-rows-start : (count : ℕ) (f1 f2 f3 : Vector) (d : ℤ) (t table : List ℤ) → ClassRowsBy count f1 f2 f3 d t 0 table table
-class-rows-start count f1 f2 f3 d t table = record { rows_are = λ j l. absurd (omega arith); rest = λ a l. refl; size = refl; within = λ j l. absurd (omega arith) }
-
--- one more
-pub class-rows-more : (count : ℕ) (f1 f2 f3 : Vector) (d : ℤ) (t table₀ table : List ℤ) (i : ℕ) (g : Vector) → ClassRowsBy count f1 f2 f3 d t i table₀ table → i * 4 + 4 ≤ length table
-    → g ≡ residues_by count f1 f2 f3 d (row t i) → AllWithin 1000000000 g → ClassRowsBy count f1 f2 f3 d t (i + 1) table₀ (put_row table i g)
+-- one point more
+pub class-rows-more : (count : ℕ) (f1 f2 f3 : Vector) (d : ℤ) (t table₀ table : List Vector) (i : ℕ) (g : Vector) → ClassRowsBy count f1 f2 f3 d t i table₀ table → i < length table
+    → g ≡ residues_by count f1 f2 f3 d (row t i) → AllWithin 1000000000 g → ClassRowsBy count f1 f2 f3 d t (i + 1) table₀ (set table i g)
 class-rows-more count f1 f2 f3 d t table₀ table i g K fits e w =
     record {
       rows_are = λ j l. rows' j (NatL.eq-or-lt_of_le (omega arith));
-      rest = λ a l. put_other table i g a (λ q. absurd (omega arith)) (λ q. absurd (omega arith)) (λ q. absurd (omega arith)) (λ q. absurd (omega arith)) ∙ K.rest a (omega arith);
-      size = put_length table i g ∙ K.size;
+      rest = λ j l. apart j (λ q. absurd (omega (arith, q, l))) ∙ K.rest j (omega (arith, l));
+      size = length-set table i g ∙ K.size;
       within = λ j l. within' j (NatL.eq-or-lt_of_le (omega arith));
     }
   where
-    here : row (put_row table i g) i ≡ g
-    here = put_row_lem table i g fits (ap (λ (u : Vector). length u) e)
+    here : row (set table i g) i ≡ g
+    here = get_or-set_same table i g [] fits
 
-    rows' : (j : ℕ) → (j ≡ i) ⊎ (j < i) → row (put_row table i g) j ≡ residues_by count f1 f2 f3 d (row t j)
-    rows' j (inl q) = subst (λ (m : ℕ). row (put_row table i g) m ≡ residues_by count f1 f2 f3 d (row t m)) (sym q) (here ∙ e)
-    rows' j (inr l) = row_other table i j g l ∙ K.rows_are j l
+    apart : (j : ℕ) → (j ≡ i → ⊥) → row (set table i g) j ≡ row table j
+    apart j n = get_or-set_other table i j g [] n
 
-    within' : (j : ℕ) → (j ≡ i) ⊎ (j < i) → AllWithin 1000000000 (row (put_row table i g) j)
-    within' j (inl q) = subst (λ (m : ℕ). AllWithin 1000000000 (row (put_row table i g) m)) (sym q) (subst (AllWithin 1000000000) (sym here) w)
-    within' j (inr l) = subst (AllWithin 1000000000) (sym (row_other table i j g l)) (K.within j l)
+    rows' : (j : ℕ) → (j ≡ i) ⊎ (j < i) → row (set table i g) j ≡ residues_by count f1 f2 f3 d (row t j)
+    rows' j (inl q) = subst (λ (m : ℕ). row (set table i g) m ≡ residues_by count f1 f2 f3 d (row t m)) (sym q) (here ∙ e)
+    rows' j (inr l) = apart j (NatL.ne_of_lt l) ∙ K.rows_are j l
 
--- the groups, written over them
-pub grouped-after : (F : Frame) (count : ℕ) (f1 f2 f3 : Vector) (d : ℤ) (t : List ℤ) (n : ℕ) (table₀ table table' : List ℤ) → ClassRowsBy count f1 f2 f3 d t n table₀ table → Grouped F count t n table table' → Grouped F count t n table₀ table'
-grouped-after F count f1 f2 f3 d t n table₀ table table' C G = record { grouped = G.grouped; rest = λ a l. G.rest a l ∙ C.rest a l; size = G.size ∙ C.size; within = G.within }
+    within' : (j : ℕ) → (j ≡ i) ⊎ (j < i) → AllWithin 1000000000 (row (set table i g) j)
+    within' j (inl q) = subst (AllWithin 1000000000) (sym (ap (row (set table i g)) q ∙ here)) w
+    within' j (inr l) = subst (AllWithin 1000000000) (sym (apart j (NatL.ne_of_lt l))) (K.within j l)

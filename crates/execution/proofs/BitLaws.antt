@@ -1,10 +1,14 @@
 -- A delivery sets one bit of a byte of any content, and the byte stays a byte; searches and tests by one number more, as a loop goes.
 -- Assumes nothing.
 use mathlib.Core.Path.{◌≡◌, refl, sym, ap, ap₂, ◌∙◌}
-use mathlib.Core.Bool.{Bool, true, false, ◌&&◌, ◌||◌}
+use mathlib.Core.Bool.{Bool, true, false, not, ◌&&◌, ◌||◌}
 use mathlib.Core.Option.{none}
-use Prim.Native.Nat.{ℕ, zero, suc, ◌+◌, ◌/◌, ◌%◌, ◌^◌, ◌<◌}
-use native.Mathlib.Nat.{not-suc-le-zero, suc_inj, suc-ne-zero, pow-succ', div-div-eq-div-mul}
+use Prim.Native.Nat.{ℕ, zero, suc, ◌+◌, ◌*◌, ◌/◌, ◌%◌, ◌^◌, ◌<◌}
+use native.Mathlib.Nat.{not-suc-le-zero, suc_inj, suc-ne-zero, pow-succ', div-div-eq-div-mul, one-mul, zero-mul}
+use lib.Pow.{shl_exact, pow_pos}
+use Rattle.std.specs.Prelude.{bit_and, bit_or}
+use Rattle.std.proofs.lemmas.Nat.{or_disjoint}
+use Rattle.std.proofs.lemmas.Nat.Bits.{and_pow}
 use native.Mathlib.Numerals.{add-one}
 use native.Mathlib.Omega.{arith}
 use borrow.Author.Tests.{eqb-false, eq-eqb, ne_eqb}
@@ -54,6 +58,26 @@ bit-set (suc i) (suc j) b e =
     same j i = eq? j i
         (λ q. eq-eqb j i q ∙ sym (eq-eqb (suc j) (suc i) (ap suc q)))
         (λ q. ne_eqb j i q ∙ sym (ne_eqb (suc j) (suc i) (λ z. q (suc_inj z))))
+
+-- what is 0 or 1 is 1 where it is not 0, times what is not 0 too
+one-or-none : (r m : ℕ) → r < 2 → 0 < m → not (eqb (r * m) 0) ≡ eqb r 1
+one-or-none zero m h l = ap (λ z. not (eqb z 0)) (zero-mul m)
+one-or-none (suc zero) m h l = ap not (ne_eqb (1 * m) 0 (λ e. absurd (omega arith)))
+one-or-none (suc (suc r)) m h l = absurd (omega arith)
+
+-- a shifted 1 is a power of 2
+shifted : (i : ℕ) → i < 8 → 1 * 2 ^ i % 256 ≡ 2 ^ i
+shifted i h = shl_exact {a = 1} 1 i 8 (omega arith) (omega arith) ∙ one-mul (2 ^ i)
+
+-- the test of a bit by a mask
+pub mask-test : (i b : ℕ) → i < 8 → not (eqb (bit_and b (1 * 2 ^ i % 256)) 0) ≡ bit i b
+mask-test i b h = ap (λ m. not (eqb (bit_and b m) 0)) (shifted i h) ∙ ap (λ z. not (eqb z 0)) (and_pow b i) ∙ one-or-none (b / 2 ^ i % 2) (2 ^ i) (omega arith) (pow_pos i)
+
+-- a bit that is 0 is set by a mask
+pub mask-set : (i b : ℕ) → i < 8 → bit i b ≡ false → bit_or b (1 * 2 ^ i % 256) ≡ b + 2 ^ i
+mask-set i b h e =
+    let z : b / 2 ^ i % 2 ≡ 0 = let n = eqb-false (b / 2 ^ i % 2) 1 e in omega arith in
+    ap (bit_or b) (shifted i h) ∙ or_disjoint b (2 ^ i) (and_pow b i ∙ ap (λ r. r * 2 ^ i) z ∙ zero-mul (2 ^ i))
 
 -- ---- one number more
 

@@ -19,7 +19,7 @@ use Rattle.partition.proofs.Theorems.{later_step-source}
 use Rattle.mapping.specs.Mapping.{processors_of, is_message, message_count}
 use Rattle.mapping.proofs.Theorems.{processors-length, processors-below}
 use Rattle.sequential.specs.Sequential.{Rule, sequential, rule_of, values_of}
-use Rattle.planner.specs.declared.Planning.{Planning}
+use Rattle.planner.specs.Plan.{Planning}
 use Rattle.planner.specs.Plan.{Tables, Plans}
 use Rattle.planner.proofs.PlanLaws.{plan-accepted}
 use Rattle.execution.specs.Rules.{Move, Effect, refuse, iteration, message, answer, Layout, effect}

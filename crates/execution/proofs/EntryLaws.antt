@@ -2,34 +2,38 @@
 -- Assumes nothing.
 use mathlib.Core.Path.{◌≡◌, refl, sym, ap, ◌∙◌, ap₂, subst}
 use mathlib.Core.Bool.{Bool, true, false, not, ◌&&◌}
-use mathlib.Core.List.{List, []}
-use mathlib.Core.Logic.{◌≢◌, inl, inr, ⊎_elim}
+use mathlib.Core.List.{List, [], ◌∷◌}
+use mathlib.Core.Logic.{◌≢◌, inl, inr}
 use mathlib.Core.Option.{Option, none, some}
 use Prim.Native.Nat.{ℕ, ◌+◌, ◌^◌, ◌≤◌, ◌<◌}
 use native.Mathlib.Omega.{arith}
-use borrow.Author.Tests.{eq-eqb, ne_eqb, lt-ltb, le-ltb}
+use borrow.Author.Tests.{eq-eqb, ne_eqb, lt-ltb}
 use lib.ListN.{length, get_or, set}
 use Rattle.nest.specs.declared.LoopNest.{LoopNest}
-use Rattle.nest.specs.declared.Inspection.{Inspection}
+use Rattle.std.specs.Prelude.{Result}
+use Rattle.std.specs.Result.{IsErrAnd}
+use Rattle.std.proofs.lemmas.Result.{err_from_is_err_and}
+use Rattle.nest.specs.declared.refusals.Refusal.{Refusal}
+use Rattle.nest.specs.Outcomes.{code}
+use Rattle.nest.proofs.Outcomes.{code-above}
 use Rattle.nest.specs.Nest.{to_ℕ, count_of}
 use Rattle.nest.specs.Points.{points_of}
-use Rattle.nest.specs.Refusals.{refusal, or_else, short_buffer, no_room, Inspects}
-use Rattle.nest.specs.Sources.{source_rank, IsSource}
-use Rattle.nest.proofs.Entries.{or_else-first, or_else-second, or_else-zero, enough, all_enough, iterations_are}
+use Rattle.nest.specs.Refusals.{refusal, or_else, short_buffer, no_room, room_refusal}
+use Rattle.nest.specs.Sources.{source_rank}
+use Rattle.nest.proofs.Entries.{or_else-first, or_else-second, or_else-zero, or_else_assoc, or_else-none, enough, all_enough}
 use Rattle.mapping.specs.Mapping.{is_message}
 use Rattle.sequential.specs.Sequential.{rule_of, value_of}
-use Rattle.execution.specs.declared.Answer.{Answer}
-use Rattle.execution.specs.declared.Answer.TheVariants.{Computed, Delivered, Refused}
+use Rattle.execution.specs.declared.Done as did
+use Rattle.execution.specs.Answer.{Answer, Computed, Delivered, Refused, answer_in}
 use Rattle.execution.specs.Rules.{every, Move, compute, deliver, Effect, refuse, iteration, message, answer, Layout, View, there, source_done, ready, taking, effect}
 use Rattle.execution.specs.Run.{State, bit, state_view, move_refusal, state_refusal, move_effect, after}
 use Rattle.execution.specs.Entry.{layout_in, state_in, number_of, answer_of, Makes}
-use Rattle.execution.specs.Inner.{view_in, rank_or, Delivers, ready_from, delivery_answer, delivery_left, Room}
+use Rattle.execution.specs.Inner.{view_in, Delivers, ready_from, delivery_answer, delivery_left, Room}
 use Rattle.execution.proofs.Base.{eq?, every-same}
 use Rattle.execution.proofs.RuleLaws.{effect-number, Numbered, move-refused, move_rules, taking-none, taking-ready, taking-waits, delivering-ready, delivering-refused, compute-there, compute_nowhere, deliver-there, deliver_nowhere, message-some, not_ready}
-use Rattle.execution.proofs.FindingLaws.{taken_of, taken_none, taken-some}
-use Rattle.integers.proofs.Lists.{below_or_not}
+use Rattle.execution.proofs.FindingLaws.{taken_of}
 use lib.Dec.{eqb}
-use Rattle.nest.proofs.PointLaws.{rank_found, rank-none}
+use Rattle.nest.proofs.PointLaws.{source_iff}
 
 -- ---- by the effect
 
@@ -84,38 +88,39 @@ module _ (s : LoopNest) (steps processors values done delivered : List ℕ) (n :
   pub no_processor : (c : ℕ) → c ≡ 2 ^ to_ℕ s.cube → c ≤ p → Computes (Refused 18) state
   no_processor c e h = by_effect s state (effect s view (compute p)) (refuse 18) (Refused 18) state (compute_nowhere s view p (omega arith)) (refused s state 18)
 
-  module _ (c k : ℕ) (cube : c ≡ 2 ^ to_ℕ s.cube) (h : p < c) (e : k ≡ rank_or n (taken_of steps processors done n p n)) where
+  module _ (c : ℕ) (cube : c ≡ 2 ^ to_ℕ s.cube) (h : p < c) (o : Option ℕ) (e : o ≡ taken_of steps processors done p n) where
+    -- what it takes
+    takes : effect s view (compute p) ≡ taking s view p o
+    takes = compute-there s view p (omega arith) ∙ ap (taking s view p) (ap (taken_of steps processors done p) (sym count) ∙ sym e)
+
     -- the processor has no iteration left
-    pub idle : n ≤ k → Computes (Refused 17) state
-    idle l =
+    pub idle : o ≡ none → Computes (Refused 17) state
+    idle q =
         by_effect s state (effect s view (compute p)) (refuse 17) (Refused 17) state
-        (compute-there s view p (omega arith) ∙ ap (taking s view p) (ap (taken_of steps processors done n p) (sym count) ∙ taken_none steps processors done n p k e l) ∙ taking-none s view p)
-        (refused s state 17)
+        (takes ∙ ap (taking s view p) q ∙ taking-none s view p) (refused s state 17)
 
-    -- the iteration that it takes
-    takes : k < n → effect s view (compute p) ≡ taking s view p (some k)
-    takes l = compute-there s view p (omega arith) ∙ ap (taking s view p) (ap (taken_of steps processors done n p) (sym count) ∙ taken-some steps processors done n p k e l)
+    module _ (k : ℕ) (it : o ≡ some k) where
+      -- steps are no part of the test of sources
+      same-there : (i : ℕ) (j : Option ℕ) → there (view_in [] processors done delivered) p k i j ≡ there view p k i j
+      same-there i none = refl
+      same-there i (some j) = refl
 
-    -- steps are no part of the test of sources
-    same-there : (i : ℕ) (o : Option ℕ) → there (view_in [] processors done delivered) p k i o ≡ there view p k i o
-    same-there i none = refl
-    same-there i (some j) = refl
+      module _ (b : Bool) (q : b ≡ every (λ i. there (view_in [] processors done delivered) p k i (source_rank s k i)) (count_of s)) where
+        -- so it comes out the same
+        all_same : every (λ i. there view p k i (source_rank s k i)) (count_of s) ≡ b
+        all_same = sym (q ∙ every-same (λ i. there (view_in [] processors done delivered) p k i (source_rank s k i)) (λ i. there view p k i (source_rank s k i)) (count_of s) (λ i l. same-there i (source_rank s k i)))
 
-    -- so it comes out the same
-    all_same : (b : Bool) → b ≡ every (λ i. there (view_in [] processors done delivered) p k i (source_rank s k i)) (count_of s) → every (λ i. there view p k i (source_rank s k i)) (count_of s) ≡ b
-    all_same b q = sym (q ∙ every-same (λ i. there (view_in [] processors done delivered) p k i (source_rank s k i)) (λ i. there view p k i (source_rank s k i)) (count_of s) (λ i l. same-there i (source_rank s k i)))
+        -- a source is not there
+        pub waiting : b ≡ false → Computes (Refused 15) state
+        waiting f =
+            by_effect s state (effect s view (compute p)) (refuse 15) (Refused 15) state
+            (takes ∙ ap (taking s view p) it ∙ taking-waits s view p k (all_same ∙ f)) (refused s state 15)
 
-    -- a source is not there
-    pub waiting : (b : Bool) → k < n → b ≡ every (λ i. there (view_in [] processors done delivered) p k i (source_rank s k i)) (count_of s) → b ≡ false → Computes (Refused 15) state
-    waiting b l q f =
-        by_effect s state (effect s view (compute p)) (refuse 15) (Refused 15) state (takes l ∙ taking-waits s view p k (all_same b q ∙ f)) (refused s state 15)
-
-    -- the iteration is computed
-    pub computes : (b : Bool) (x : ℕ) → k < n → b ≡ every (λ i. there (view_in [] processors done delivered) p k i (source_rank s k i)) (count_of s) → b ≡ true
-        → x ≡ value_of (rule_of s) s values k → Computes (Computed (record { rank = k; value = x })) (state_in (set values k x) (set done k 1) delivered)
-    computes b x l q t v =
-        by_effect s state (effect s view (compute p)) (iteration k) (Computed (record { rank = k; value = x })) (state_in (set values k x) (set done k 1) delivered)
-        (takes l ∙ taking-ready s view p k (all_same b q ∙ t)) (computed s values done delivered k x v)
+        -- the iteration is computed
+        pub computes : (x : ℕ) → b ≡ true → x ≡ value_of (rule_of s) s values k → Computes (Computed (record { rank = k; value = x })) (state_in (set values k x) (set done k 1) delivered)
+        computes x t v =
+            by_effect s state (effect s view (compute p)) (iteration k) (Computed (record { rank = k; value = x })) (state_in (set values k x) (set done k 1) delivered)
+            (takes ∙ ap (taking s view p) it ∙ taking-ready s view p k (all_same ∙ t)) (computed s values done delivered k x v)
 
 -- ---- the ways out of a delivery
 module _ (s : LoopNest) (processors done delivered : List ℕ) (n : ℕ) (count : n ≡ length (points_of s)) (k i : ℕ) where
@@ -136,8 +141,8 @@ module _ (s : LoopNest) (processors done delivered : List ℕ) (n : ℕ) (count 
   no_rank h = delivery_by (refuse 18) (Refused 18) delivered (λ steps. deliver_nowhere s (view_in steps processors done delivered) k i (inl (omega arith))) (λ values. refused s (state_in values done delivered) 18)
 
   -- there is no such dependence
-  pub no_dependence : (m : ℕ) → m ≡ count_of s → m ≤ i → Comes (Refused 18) delivered
-  no_dependence m e h = delivery_by (refuse 18) (Refused 18) delivered (λ steps. deliver_nowhere s (view_in steps processors done delivered) k i (inr (omega arith))) (λ values. refused s (state_in values done delivered) 18)
+  pub no_dependence : count_of s ≤ i → Comes (Refused 18) delivered
+  no_dependence h = delivery_by (refuse 18) (Refused 18) delivered (λ steps. deliver_nowhere s (view_in steps processors done delivered) k i (inr (omega arith))) (λ values. refused s (state_in values done delivered) 18)
 
   -- steps are no part of the test of a message
   same_source : (steps : List ℕ) (o : Option ℕ) → source_done (view_in [] processors done delivered) o ≡ source_done (view_in steps processors done delivered) o
@@ -163,34 +168,45 @@ module _ (s : LoopNest) (processors done delivered : List ℕ) (n : ℕ) (count 
         (λ steps. let v = view_in steps processors done delivered in deliver-there s v k i (omega arith) (omega arith) ∙ delivering-ready s v k i (same-ready steps b q ∙ t))
         (λ values. delivers s values done delivered k i x e)
 
-  -- where the rank j of the source is known the test is that of the message
-  ready-from : (j : ℕ) → IsSource s k i j → ready_from j n processors done delivered k i ≡ ready s (view_in [] processors done delivered) k i
-  ready-from j e = ⊎_elim (λ (l : j < n). there l) (λ (l : n ≤ j). missing l) (below_or_not j n)
-    where
-      there : j < n → ready_from j n processors done delivered k i ≡ ready s (view_in [] processors done delivered) k i
-      there l =
-          let f : source_rank s k i ≡ some j = rank_found s k i j e (omega arith) in
-          ap (λ b. b && (not (eqb (get_or processors j 0) (get_or processors k 0)) && (not (eqb (get_or done j 0) 0) && not (bit i (get_or delivered k 0))))) (lt-ltb j n l)
-          ∙ sym (ap₂ (λ (a b : Bool). a && (b && not (bit i (get_or delivered k 0)))) (message-some s processors k i j f) (ap (source_done (view_in [] processors done delivered)) f))
-
-      missing : n ≤ j → ready_from j n processors done delivered k i ≡ ready s (view_in [] processors done delivered) k i
-      missing l =
-          let f : source_rank s k i ≡ none = rank-none s k i j e (omega arith) in
-          ap (λ b. b && (not (eqb (get_or processors j 0) (get_or processors k 0)) && (not (eqb (get_or done j 0) 0) && not (bit i (get_or delivered k 0))))) (le-ltb j n l)
-          ∙ sym (not_ready s (view_in [] processors done delivered) k i f)
+  -- where the source is known the test is that of the message
+  ready-from : (o : Option ℕ) → o ≡ source_rank s k i → ready_from o n processors done delivered k i ≡ ready s (view_in [] processors done delivered) k i
+  ready-from none e = sym (not_ready s (view_in [] processors done delivered) k i (sym e))
+  ready-from (some j) e =
+      ap (λ b. b && (not (eqb (get_or processors j 0) (get_or processors k 0)) && (not (eqb (get_or done j 0) 0) && not (bit i (get_or delivered k 0))))) (lt-ltb j n (omega (arith, ((source_iff s k i j).0 (sym e)).0)))
+      ∙ sym (ap₂ (λ (a b : Bool). a && (b && not (bit i (get_or delivered k 0)))) (message-some s processors k i j (sym e)) (ap (source_done (view_in [] processors done delivered)) (sym e)))
 
   -- so what is answered and left by it is what the move comes to
-  pub delivers-from : (j : ℕ) (r : Answer) (delivered' : List ℕ) → k < n → i < count_of s → IsSource s k i j
-      → r ≡ delivery_answer (ready_from j n processors done delivered k i) k i → delivered' ≡ delivery_left (ready_from j n processors done delivered k i) delivered k i → Comes r delivered'
-  delivers-from j r delivered' hk hi e p q =
+  pub delivers-from : (o : Option ℕ) (r : Answer) (delivered' : List ℕ) → k < n → i < count_of s → o ≡ source_rank s k i
+      → r ≡ delivery_answer (ready_from o n processors done delivered k i) k i → delivered' ≡ delivery_left (ready_from o n processors done delivered k i) delivered k i → Comes r delivered'
+  delivers-from o r delivered' hk hi e p q =
       subst (λ a. Comes a delivered') (sym p)
-      (subst (λ l. Comes (delivery_answer (ready_from j n processors done delivered k i) k i) l) (sym q) (by (ready_from j n processors done delivered k i) (ready-from j e)))
+      (subst (λ l. Comes (delivery_answer (ready_from o n processors done delivered k i) k i) l) (sym q) (by (ready_from o n processors done delivered k i) (ready-from o e)))
     where
       by : (b : Bool) → b ≡ ready s (view_in [] processors done delivered) k i → Comes (delivery_answer b k i) (delivery_left b delivered k i)
       by true t = delivery (count_of s) true refl hk hi t (get_or delivered k 0 + 2 ^ i) refl refl
       by false t = out_of_turn (count_of s) false refl hk hi t refl
 
 -- ---- the ways out of the entry
+
+-- room in five tables
+five-rooms : (n a b c d e : ℕ) → room_refusal n (a ∷ b ∷ c ∷ d ∷ e ∷ []) ≡ or_else (no_room n a b c d) (short_buffer n e)
+unfolding room_refusal
+five-rooms n a b c d e =
+    let A = short_buffer n a in
+    let B = short_buffer n b in
+    let C = short_buffer n c in
+    let D = short_buffer n d in
+    let E = short_buffer n e in
+    ap (or_else A) (ap (or_else B) (ap (or_else C) (ap (or_else D) (or_else-none E)) ∙ or_else_assoc C D E) ∙ or_else_assoc B (or_else C D) E)
+    ∙ or_else_assoc A (or_else B (or_else C D)) E
+
+code-not-zero : (e : Refusal) → code e ≢ 0
+code-not-zero e z = omega (arith, code-above e)
+
+-- the answer where a `?` hands a refusal on
+answer_out : (r : Result did.Done Refusal) (e : Refusal) → IsErrAnd r (λ y. y ≡ e) → answer_in r ≡ Refused (code e)
+answer_out r e h = let p = err_from_is_err_and r h in rw (p.1, p.2) refl
+
 module _ (s : LoopNest) (steps processors values done delivered : List ℕ) (mv : Move) where
   -- the layout that the entry finds
   abbrev L : Layout
@@ -206,60 +222,51 @@ module _ (s : LoopNest) (steps processors values done delivered : List ℕ) (mv 
       let f = by_effect s st (move_effect s L st mv) x r st' e d in
       (f.0, (ap number_of f.0 ∙ number-answer s values (move_effect s L st mv), f.1))
 
-  module _ (known : Inspection) (inspects : Inspects s known) where
-    -- the number that the buffers give, of m iterations
-    abbrev room : ℕ → ℕ
-    room m = or_else (no_room m (length steps) (length processors) (length values) (length done)) (short_buffer m (length delivered))
+  -- a refusal e before the rules, which a `?` hands on, is the answer r
+  module _ (r : Result did.Done Refusal) (e : Refusal) (h : IsErrAnd r (λ y. y ≡ e)) where
+    refused-call : code e ≡ state_refusal s L st → Makes s L st mv (answer_in r) st
+    refused-call q =
+        subst (λ x. Makes s L st mv x st) (sym (answer_out r e h))
+        (made_by (refuse (code e)) (Refused (code e)) st (move-refused s L st mv (λ z. code-not-zero e (q ∙ z)) ∙ ap refuse (sym q)) (refused s st (code e)))
 
-    -- the number that the nest and the buffers give
-    abbrev pub call : ℕ
-    call = or_else known.refusal (room known.iterations)
+    -- the nest is refused
+    pub bad_nest : code e ≡ refusal s → Makes s L st mv (answer_in r) st
+    unfolding move_refusal
+    bad_nest q = refused-call (q ∙ sym (or_else-first (refusal s) _ (λ z. code-not-zero e (q ∙ z))))
 
-    -- what is known of the nest is its refusal
-    own : known.refusal ≡ refusal s
-    own = ap (λ (r : Inspection). r.refusal) inspects
+  -- the lengths of the buffers
+  abbrev pub rooms : List ℕ
+  rooms = length steps ∷ length processors ∷ length values ∷ length done ∷ length delivered ∷ []
 
-    -- and, where it is accepted, its number of iterations
-    counted : refusal s ≡ 0 → known.iterations ≡ length (points_of s)
-    counted ok = ap (λ (r : Inspection). r.iterations) inspects ∙ iterations_are s ok
-
-    -- so the number is that of the call
-    call-is : state_refusal s L st ≡ call
+  -- what they give where the nest is accepted
+  module _ (ok : refusal s ≡ 0) (n : ℕ) (count : n ≡ length (points_of s)) where
+    call-is : state_refusal s L st ≡ room_refusal n rooms
     unfolding move_refusal
     call-is =
-        let m = length (points_of s) in
-        eq? (refusal s) 0
-        (λ ok. or_else-second (refusal s) (room m) ok ∙ ap (λ k. room k) (sym (counted ok)) ∙ sym (or_else-second known.refusal (room known.iterations) (own ∙ ok)))
-        (λ no. or_else-first (refusal s) (room m) no ∙ sym own ∙ sym (or_else-first known.refusal (room known.iterations) (λ e. no (sym own ∙ e))))
+        or_else-second (refusal s) (five (length (points_of s))) ok ∙ ap five (sym count)
+        ∙ sym (five-rooms n (length steps) (length processors) (length values) (length done) (length delivered))
+      where
+        five : ℕ → ℕ
+        five m = or_else (no_room m (length steps) (length processors) (length values) (length done)) (short_buffer m (length delivered))
 
-    -- a refusal before the rules is the answer
-    pub refused-call : (a : ℕ) → a ≡ call → a ≢ 0 → Makes s L st mv (Refused a) st
-    refused-call a e h = made_by (refuse a) (Refused a) st (move-refused s L st mv (λ z. h (e ∙ sym call-is ∙ z)) ∙ ap refuse (call-is ∙ sym e)) (refused s st a)
+    -- a buffer is too short
+    pub short_room : (r : Result did.Done Refusal) (e : Refusal) → IsErrAnd r (λ y. y ≡ e) → code e ≡ room_refusal n rooms → Makes s L st mv (answer_in r) st
+    short_room r e h q = refused-call r e h (q ∙ sym call-is)
 
-    -- where there is none
-    module _ (none : call ≡ 0) where
-      -- the nest is accepted
-      accepted : refusal s ≡ 0
-      accepted = sym own ∙ (or_else-zero known.refusal (room known.iterations) none).0
+    -- the buffers have room
+    pub enough_room : 0 ≡ room_refusal n rooms → Room n L st
+    enough_room e =
+        let z = sym (e ∙ five-rooms n (length steps) (length processors) (length values) (length done) (length delivered)) in
+        let y = or_else-zero (no_room n (length steps) (length processors) (length values) (length done)) (short_buffer n (length delivered)) z in
+        let h = all_enough n (length steps) (length processors) (length values) (length done) y.0 in
+        (h.0, h.1, h.2, h.3, enough n (length delivered) y.1)
 
-      -- the buffers have room
-      enough_room : Room known.iterations L st
-      enough_room =
-          let n = known.iterations in
-          let z = (or_else-zero known.refusal (room n) none).1 in
-          let y = or_else-zero (no_room n (length steps) (length processors) (length values) (length done)) (short_buffer n (length delivered)) z in
-          let h = all_enough n (length steps) (length processors) (length values) (length done) y.0 in
-          (h.0, h.1, h.2, h.3, enough n (length delivered) y.1)
-
-      -- so a move may be made: the nest is accepted, what is known is the number of its iterations, and the buffers have room for them
-      pub may-move : ((refusal s ≡ 0) × (known.iterations ≡ length (points_of s))) × Room known.iterations L st
-      may-move = ((accepted, counted accepted), enough_room)
-
-      -- and the rules decide on the move that the request names
-      pub made_move : (mv₀ : Move) → mv ≡ mv₀ → (r : Answer) (st' : State ℕ) → Done s st (effect s (view_in steps processors done delivered) mv₀) r st' → Makes s L st mv r st'
-      made_move mv₀ q r st' d =
-          let v = view_in steps processors done delivered in
-          made_by (effect s v mv₀) r st' (move_rules s L st mv (call-is ∙ none) ∙ ap (effect s v) q) d
+    -- and so the rules decide on the move
+    pub made_move : 0 ≡ room_refusal n rooms → (t : LoopNest) → t ≡ s → (mv₀ : Move) → mv ≡ mv₀ → (r : Answer) (st' : State ℕ)
+        → Done t st (effect t (view_in steps processors done delivered) mv₀) r st' → Makes s L st mv r st'
+    made_move enough t same mv₀ q r st' d =
+        let v = view_in steps processors done delivered in
+        made_by (effect s v mv₀) r st' (move_rules s L st mv (call-is ∙ sym enough) ∙ ap (effect s v) q) (subst (λ n. Done n st (effect n v mv₀) r st') same d)
 
 -- ---- a refused answer has a number other than 0
 

@@ -7,8 +7,7 @@ use Rattle.nest.specs.declared.LoopNest.{LoopNest}
 use Rattle.nest.specs.Refusals.{refusal}
 use Rattle.sequential.specs.Sequential.{rule_of, values_of}
 use Rattle.execution.specs.declared.Move as asked
-use Rattle.execution.specs.declared.Answer.{Answer}
-use Rattle.execution.specs.declared.Answer.TheVariants.{Computed}
+use Rattle.execution.specs.Answer.{Answer, Computed}
 use Rattle.execution.specs.Rules.{Move, Effect, refuse, iteration, message, Layout, effect}
 use Rattle.execution.specs.Machine.{Machine, fresh_machine, machine_view, machine_next, machine_told}
 use Rattle.execution.specs.Run.{State, run, answers}

@@ -11,5 +11,6 @@ pub mod Ignored
 pub mod ExampleRun
 pub mod BitLaws
 pub mod FindingLaws
+pub mod SourceLaws
 pub mod EntryLaws
 pub mod EntryRuns

@@ -6,8 +6,7 @@ use Rattle.nest.specs.declared.LoopNest.{LoopNest}
 use Rattle.sequential.specs.Sequential.{rule_of, value_of, values_of}
 use Rattle.execution.specs.declared.Move as asked
 use Rattle.execution.specs.declared.Move.TheVariants.{Compute, Deliver}
-use Rattle.execution.specs.declared.Answer.{Answer}
-use Rattle.execution.specs.declared.Answer.TheVariants.{Computed, Delivered, Refused}
+use Rattle.execution.specs.Answer.{Answer, Computed, Delivered, Refused}
 use Rattle.execution.specs.Rules.{Move, compute, deliver, Effect, refuse, iteration, message, Layout}
 use Rattle.execution.specs.Run.{State, move_effect, move_answer, move_after}
 

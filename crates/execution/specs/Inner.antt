@@ -2,12 +2,13 @@
 -- delivery answer and leave once the nest is accepted and every buffer is long enough.
 -- Assumes nothing.
 use Rattle.std.specs.Prelude.{◌≡◌, Bool, true, false, not, ◌&&◌, List, [], ℕ, ◌+◌, ◌^◌, ◌≤◌, eqb, ltb, length, get_or}
-use Rattle.std.specs.Prelude.{set}
+use Rattle.std.specs.Prelude.{set, Option as Found, Some, None}
 use Rattle.std.proofs.Math.Option.{Option, none, some}
 use Rattle.nest.specs.declared.LoopNest.{LoopNest}
 use Rattle.sequential.specs.Sequential.{rule_of}
-use Rattle.execution.specs.declared.Answer.{Answer}
-use Rattle.execution.specs.declared.Answer.TheVariants.{Delivered, Refused}
+use Rattle.execution.specs.declared.PlanTables.{PlanTables}
+use Rattle.execution.specs.declared.RunState.{RunState}
+use Rattle.execution.specs.Answer.{Answer, Delivered, Refused}
 use Rattle.execution.specs.Rules.{Move, deliver, Layout, View, effect}
 use Rattle.execution.specs.Run.{State, state_view, bit, after}
 use Rattle.execution.specs.Entry.{layout_in, state_in, answer_of}
@@ -16,10 +17,20 @@ use Rattle.execution.specs.Entry.{layout_in, state_in, answer_of}
 abbrev pub view_in : List ℕ → List ℕ → List ℕ → List ℕ → View
 view_in steps processors done delivered = state_view (layout_in steps processors) (state_in [] done delivered)
 
--- a rank, or the number of iterations where there is none
-abbrev pub rank_or : ℕ → Option ℕ → ℕ
-rank_or iterations none = iterations
-rank_or iterations (some k) = k
+-- a rank or none, as it is found
+abbrev pub option_in : Found ℕ → Option ℕ
+option_in None = none
+option_in (Some k) = some k
+
+-- ---- lent buffers that go together
+
+-- the step and processor tables
+abbrev pub tables_layout : PlanTables → Layout
+tables_layout tables = layout_in tables.steps.now tables.processors.now
+
+-- the state's three buffers
+abbrev pub state_lent : RunState → State ℕ
+state_lent state = state_in state.values.now state.done.now state.delivered.now
 
 -- ---- moves on an accepted nest, with an entry for each of its iterations in every buffer
 
@@ -46,10 +57,11 @@ Delivers s processors done delivered k i r delivered' =
     → Leaves s (layout_in steps processors) (state_in values done delivered) (deliver k i)
     (state_in values done delivered'))
 
--- the same where the rank j of the source is known, which is the number of iterations or more where
--- there is none: the message can be delivered
-abbrev pub ready_from : ℕ → ℕ → List ℕ → List ℕ → List ℕ → ℕ → ℕ → Bool
-ready_from j iterations processors done delivered k i =
+-- the same where the source is known by its rank, or that it is none of so many iterations: the
+-- message can be delivered
+abbrev pub ready_from : Option ℕ → ℕ → List ℕ → List ℕ → List ℕ → ℕ → ℕ → Bool
+ready_from none iterations processors done delivered k i = false
+ready_from (some j) iterations processors done delivered k i =
     ltb j iterations && (not (eqb (get_or processors j 0) (get_or processors k 0))
     && (not (eqb (get_or done j 0) 0) && not (bit i (get_or delivered k 0))))
 

@@ -7,5 +7,6 @@ pub mod Words
 pub mod Claim
 pub mod Order
 pub mod Example
+pub mod Answer
 pub mod Entry
 pub mod Inner

@@ -1,32 +1,21 @@
 // What a move finds in lent tables: the iteration that a processor takes, the sources that are
 // there, the messages that can be delivered.
-ghost use Rattle.std.specs.Prelude.{◌≡◌, false, [], ℕ, ◌+◌, ◌-◌, ◌^◌, ◌<◌, ◌≤◌, eqb, length, get_or};
-ghost use Rattle.std.proofs.Math.Option.{Option, some};
-ghost use Rattle.integers.specs.Lists.{first_from};
-ghost use Rattle.nest.specs.Nest.{count_of, padded, max_depth, max_dependences};
-ghost use Rattle.nest.specs.Points.{points_of};
-ghost use Rattle.nest.specs.Refusals.{refusal};
+ghost use Rattle.std.specs.Prelude.{◌≡◌, true, false, [], ◌+◌, ◌^◌, ◌<◌, ◌≤◌, length, get_or, IfSome};
+ghost use Rattle.nest.specs.Nest.{count_of, max_dependences};
 ghost use Rattle.nest.specs.Sources.{source_rank};
 ghost use Rattle.execution.specs.Rules.{every, better, least, step_in, waits, there};
 ghost use Rattle.execution.specs.Run.{bit};
-ghost use Rattle.execution.specs.Inner.{view_in, rank_or, ready_from};
+ghost use Rattle.execution.specs.Inner.{view_in, option_in, ready_from};
 
-use nest::LoopNest;
-
-// 2^i, for a bit of a byte.
-fn power(i: usize) -> u8
-    requires { i < max_dependences }
-    ensures { result ≡ 2 ^ i }
-{
-    1u8 << i
-}
+use crate::Delivery;
+use nest::AcceptedNest;
 
 // Whether bit i of a byte is 1.
 fn bit_set(byte: u8, i: usize) -> bool
     requires { i < max_dependences }
     ensures { result ≡ bit i byte }
 {
-    byte / power(i) % 2 == 1
+    byte & (1 << i) != 0
 }
 
 // A byte whose bit i is 0, with that bit 1.
@@ -34,159 +23,101 @@ pub fn with_bit(byte: u8, i: usize) -> u8
     requires { (i < max_dependences) × (bit i byte ≡ false) }
     ensures { result ≡ byte + 2 ^ i }
 {
-    byte + power(i)
+    byte | (1 << i)
 }
 
-// The better of the best so far, which is the number of iterations where there is none, and
-// iteration k: k, if it is not done and on processor p, and there is no best or k's step is less.
-fn better_of(
-    steps: &[u32],
-    processors: &[u8],
-    done: &[u8],
-    iterations: usize,
-    p: u8,
-    k: usize,
-    best: usize,
-) -> usize
-    requires { (k < iterations) × (best ≤ iterations) × (iterations ≤ length steps.now)
-        × (iterations ≤ length processors.now) × (iterations ≤ length done.now) }
-    ensures { (o : Option ℕ) → best ≡ rank_or iterations o → ((j : ℕ) → o ≡ some j → j < iterations)
-        → result ≡ rank_or iterations
-        (better (step_in (view_in steps.now processors.now done.now [])) k
-        (waits (view_in steps.now processors.now done.now []) p k) o) }
+// The better of the best so far and an iteration that waits: that iteration, if there is no best or
+// its step is less.
+fn better_of(steps: &[u32], best: Option<usize>, k: usize) -> Option<usize>
+    requires best_in_bounds { IfSome best (λ j. j < length steps.now) }
+    requires k_in_bounds { k < length steps.now }
+    ensures { option_in result ≡ better (λ j. get_or steps.now j 0) k true (option_in best) }
 {
-    if processors[k] != p {
-        return best;
+    match best {
+        None => Some(k),
+        Some(j) => if steps[k] < steps[j] { Some(k) } else { best },
     }
-    if done[k] != 0 {
-        return best;
-    }
-    if best == iterations {
-        return k;
-    }
-    if steps[k] < steps[best] { k } else { best }
 }
 
-// The first iteration on processor p, of those from `from` on; the number of iterations where there
-// is none.
-fn next_on(processors: &[u8], iterations: usize, p: u8, from: usize) -> usize
-    requires { (from ≤ iterations) × (iterations ≤ length processors.now) }
-    ensures { result ≡ first_from (λ j. eqb (get_or processors.now j 0) p) (iterations - from) from }
-{
-    for j in from..iterations {
-        if processors[j] == p {
-            return j;
+// What a move looks at besides the steps: of each of so many iterations its processor, whether it
+// is done, and which of its messages are delivered.
+#[derive(Clone, Copy)]
+pub struct Seen<'a> {
+    // Kept: `make_move` takes buffers that are longer, and promises of them whole (`Makes`).
+    pub iterations: usize,
+    pub processors: &'a [u8],
+    pub done: &'a [u8],
+    pub delivered: &'a [u8],
+    ghost room: { (iterations ≤ length processors.now) × (iterations ≤ length done.now)
+        × (iterations ≤ length delivered.now) },
+}
+
+impl Seen<'_> {
+    // The iteration that processor p takes: the one that is not done, least in step, then in rank.
+    pub fn next_iteration(&self, steps: &[u32], p: u8) -> Option<usize>
+        requires { self.now.iterations ≤ length steps.now }
+        ensures { option_in result ≡ least
+            (waits (view_in steps.now self.now.processors.now self.now.done.now []) p)
+            (step_in (view_in steps.now self.now.processors.now self.now.done.now []))
+            self.now.iterations }
+    {
+        let mut best = None;
+        for (k, processor) in self.processors[..self.iterations].iter().enumerate() {
+            if *processor == p && self.done[k] == 0 {
+                best = better_of(steps, best, k);
+            }
         }
+        best
     }
-    iterations
-}
 
-// The iteration that processor p takes: the one that is not done, least in step, then in rank; the
-// number of iterations where there is none.
-pub fn next_iteration(
-    steps: &[u32],
-    processors: &[u8],
-    done: &[u8],
-    iterations: usize,
-    p: u8,
-) -> usize
-    requires { (iterations ≤ length steps.now) × (iterations ≤ length processors.now)
-        × (iterations ≤ length done.now) }
-    ensures { result ≡ rank_or iterations
-        (least (waits (view_in steps.now processors.now done.now []) p)
-        (step_in (view_in steps.now processors.now done.now [])) iterations) }
-{
-    let mut best = iterations;
-    let mut k = next_on(processors, iterations, p, 0);
-    while k < iterations {
-        best = better_of(steps, processors, done, iterations, p, k, best);
-        k = next_on(processors, iterations, p, k + 1);
+    // Whether the source of iteration k along dependence i is there for processor p: done if on p,
+    // its message delivered otherwise; one that is no iteration always is.
+    fn is_there(&self, source: Option<usize>, p: u8, k: usize, i: usize) -> bool
+        requires source { IfSome source (λ j. j < self.now.iterations) }
+        requires place { (k < self.now.iterations) × (i < max_dependences) }
+        ensures { result ≡ there
+            (view_in [] self.now.processors.now self.now.done.now self.now.delivered.now) p k i
+            (option_in source) }
+    {
+        let Some(j) = source else {
+            return true;
+        };
+        if self.processors[j] == p {
+            return self.done[j] != 0;
+        }
+        bit_set(self.delivered[k], i)
     }
-    best
-}
 
-// Whether the source of iteration k, at this index point, along dependence i is there for processor
-// p: done if on p, its message delivered otherwise; one that is no iteration always is.
-fn source_there(
-    s: LoopNest,
-    iterations: usize,
-    processors: &[u8],
-    done: &[u8],
-    delivered: &[u8],
-    point: [i64; LoopNest::MAX_DEPTH],
-    p: u8,
-    k: usize,
-    i: usize,
-) -> bool
-    requires s_value { (refusal s ≡ 0) × (iterations ≡ length (points_of s)) × (k < iterations)
-        × (point ≡ padded max_depth (get_or (points_of s) k [])) × (i < count_of s) }
-    requires iterations_in_bounds { (iterations ≤ length processors.now) × (iterations ≤ length done.now)
-        × (iterations ≤ length delivered.now) }
-    ensures { result ≡ there (view_in [] processors.now done.now delivered.now) p k i
-        (source_rank s k i) }
-{
-    let j = nest::source_at(s, point, i);
-    if iterations <= j {
-        return true;
+    // Whether all sources of iteration k are there for processor p.
+    pub fn all_there(&self, s: &AcceptedNest, p: u8, k: usize) -> bool
+        requires { (self.now.iterations ≡ s.now.iterations) × (k < self.now.iterations) }
+        ensures { result ≡ every
+            (λ i. there (view_in [] self.now.processors.now self.now.done.now self.now.delivered.now)
+            p k i (source_rank s.now.nest k i)) (count_of s.now.nest) }
+    {
+        let point = s.point_of(k);
+        for i in 0..s.count() {
+            if !self.is_there(s.source_at(point, i), p, k, i) {
+                return false;
+            }
+        }
+        true
     }
-    if processors[j] == p {
-        return done[j] != 0;
-    }
-    bit_set(delivered[k], i)
-}
 
-// Whether all sources of iteration k are there for processor p.
-pub fn all_there(
-    s: LoopNest,
-    iterations: usize,
-    processors: &[u8],
-    done: &[u8],
-    delivered: &[u8],
-    p: u8,
-    k: usize,
-) -> bool
-    requires s_value { (refusal s ≡ 0) × (iterations ≡ length (points_of s)) × (k < iterations) }
-    requires iterations_in_bounds { (iterations ≤ length processors.now) × (iterations ≤ length done.now)
-        × (iterations ≤ length delivered.now) }
-    ensures { result ≡ every
-        (λ i. there (view_in [] processors.now done.now delivered.now) p k i
-        (source_rank s k i)) (count_of s) }
-{
-    let point = nest::point_of(s, k);
-    let m = nest::to_size(s.count);
-    for i in 0..m {
-        if !source_there(s, iterations, processors, done, delivered, point, p, k, i) {
+    // Whether a message, of which the source is known, can be delivered: it is one, its source is
+    // done, and its bit is 0.
+    pub fn is_ready(&self, source: Option<usize>, message: Delivery) -> bool
+        requires { (message.rank < self.now.iterations) × (message.dependence < max_dependences) }
+        ensures { result ≡ ready_from (option_in source) self.now.iterations
+            self.now.processors.now self.now.done.now self.now.delivered.now
+            message.rank message.dependence }
+    {
+        let Some(j) = source else {
             return false;
-        }
+        };
+        j < self.iterations
+            && self.processors[j] != self.processors[message.rank]
+            && self.done[j] != 0
+            && !bit_set(self.delivered[message.rank], message.dependence)
     }
-    true
-}
-
-// Whether the message of iteration k along dependence i, whose source has rank j or is none of the
-// iterations, can be delivered: it is one, its source is done, and its bit is 0.
-pub fn is_ready(
-    j: usize,
-    iterations: usize,
-    processors: &[u8],
-    done: &[u8],
-    delivered: &[u8],
-    k: usize,
-    i: usize,
-) -> bool
-    requires k_lt_iterations { (k < iterations) × (i < max_dependences) }
-    requires iterations_in_bounds { (iterations ≤ length processors.now) × (iterations ≤ length done.now)
-        × (iterations ≤ length delivered.now) }
-    ensures { result ≡ ready_from j iterations
-        processors.now done.now delivered.now k i }
-{
-    if iterations <= j {
-        return false;
-    }
-    if processors[j] == processors[k] {
-        return false;
-    }
-    if done[j] == 0 {
-        return false;
-    }
-    !bit_set(delivered[k], i)
 }

@@ -7,26 +7,17 @@ mod finding;
 
 ghost use Rattle.std.specs.Prelude.{◌≡◌, ◌≤◌, ◌^◌, ◌<◌, length};
 ghost use Rattle.nest.specs.Nest.{to_ℕ, max_cube, max_dependences};
-ghost use Rattle.nest.specs.Points.{points_of};
-ghost use Rattle.nest.specs.Refusals.{refusal, or_else, short_buffer, no_room};
 ghost use Rattle.execution.specs.Rules.{compute};
+ghost use Rattle.execution.specs.Answer.{answer_in};
 ghost use Rattle.execution.specs.Entry.{layout_in, state_in, move_of, Makes};
-ghost use Rattle.execution.specs.Inner.{Room, Answers, Leaves, Delivers};
-ghost use Rattle.execution.specs.Inner.{ready_from, delivery_answer, delivery_left};
+ghost use Rattle.execution.specs.Inner.{tables_layout, state_lent, Room, Answers, Leaves, Delivers};
+ghost use Rattle.execution.specs.Inner.{option_in, ready_from, delivery_answer, delivery_left};
 
-use nest::{LoopNest, SHORT_BUFFER};
-
-// waiting: compute, a source is not there
-pub const WAITING: u8 = 15;
-// out of turn: delivery, no message, its source not computed, or already delivered
-pub const OUT_OF_TURN: u8 = 16;
-// idle card: compute, the processor has no iteration left
-pub const IDLE_PROCESSOR: u8 = 17;
-// no such place: no such processor, rank or dependence
-pub const NO_SUCH_PLACE: u8 = 18;
+use crate::finding::Seen;
+use nest::{AcceptedNest, LoopNest, Refusal};
 
 // A message, by the iteration that gets it and the dependence that it comes along.
-#[derive(Clone, Copy)]
+#[derive(Clone, Copy, Debug, PartialEq, Eq)]
 pub struct Delivery {
     pub rank: usize,
     pub dependence: usize,
@@ -34,173 +25,159 @@ pub struct Delivery {
 
 // A move: a processor computes its next iteration, or a message is delivered. Any
 // numbers may be asked for.
-#[derive(Clone, Copy)]
+#[derive(Clone, Copy, Debug, PartialEq, Eq)]
 pub enum Move {
     Compute(usize),
     Deliver(Delivery),
 }
 
 // What a caller asks for.
-#[derive(Clone, Copy)]
+// Kept: document 01 names this form, a move within a struct of what is asked for.
+#[derive(Clone, Copy, Debug, PartialEq, Eq)]
 pub struct Request {
     pub what: Move,
 }
 
 // The iteration that a compute took, and the value that it wrote.
-#[derive(Clone, Copy)]
+#[derive(Clone, Copy, Debug, PartialEq, Eq)]
 pub struct Computation {
     pub rank: usize,
     pub value: u16,
 }
 
-// What a move is answered: what it did, or the number of its refusal, 2 to 18.
-#[derive(Clone, Copy)]
-pub enum Answer {
+// What a move did.
+#[derive(Clone, Copy, Debug, PartialEq, Eq)]
+pub enum Done {
     Computed(Computation),
     Delivered(Delivery),
-    Refused(u8),
+}
+
+// The tables of a plan that a run looks at: the step and the processor of each iteration.
+#[derive(Clone, Copy)]
+pub struct PlanTables<'a> {
+    pub steps: &'a [u32],
+    pub processors: &'a [u8],
+}
+
+// The state of a run: of each iteration its value, whether it is done, and which of its messages
+// are delivered.
+#[derive(Drop)]
+pub struct RunState<'a> {
+    pub values: &'a mut [u16],
+    pub done: &'a mut [u8],
+    pub delivered: &'a mut [u8],
 }
 
 // How many processors there are: 2^c, at most 64.
-fn processors_in(s: LoopNest) -> usize
-    requires { refusal s ≡ 0 }
-    ensures { (result ≡ 2 ^ to_ℕ s.cube) × (result ≤ 2 ^ max_cube) }
+fn processors_in(s: &AcceptedNest) -> usize
+    ensures { (result ≡ 2 ^ to_ℕ s.now.nest.cube) × (result ≤ 2 ^ max_cube) }
 {
-    let c = nest::to_size(s.cube);
-    1usize << c
+    1usize << s.cube()
 }
 
-// The refusal of a call before the rules decide, where `number` is the refusal of its nest: that,
-// or else 14 if one of the five buffers has fewer entries than there are iterations, 0 if none has.
-pub fn check_call(
-    number: u8,
-    iterations: usize,
-    steps: usize,
-    processors: usize,
-    values: usize,
-    done: usize,
-    delivered: usize,
-) -> u8
-    ensures { result ≡ or_else number
-        (or_else (no_room iterations steps processors values done) (short_buffer iterations delivered)) }
-{
-    if number != 0 {
-        return number;
-    }
-    let room = nest::check_room(iterations, steps, processors, values, done);
-    if room != 0 {
-        return room;
-    }
-    if delivered < iterations {
-        SHORT_BUFFER
-    } else {
-        0
-    }
-}
-
-// A compute on processor p, of an accepted nest of so many iterations: the iteration that it takes
-// gets its value and its done byte, if its sources are there.
+// A compute on processor p, of an accepted nest: the iteration that it takes gets its value and its
+// done byte, if its sources are there.
 pub fn compute(
-    s: LoopNest,
-    iterations: usize,
+    s: &AcceptedNest,
     p: usize,
-    steps: &[u32],
-    processors: &[u8],
-    values: &mut [u16],
-    done: &mut [u8],
-    delivered: &[u8],
-) -> Answer
-    requires s_value { (refusal s ≡ 0) × (iterations ≡ length (points_of s)) }
-    requires room { Room iterations (layout_in steps.now processors.now)
-        (state_in values.old done.old delivered.now) }
-    ensures answers { Answers s (layout_in steps.now processors.now)
-        (state_in values.old done.old delivered.now) (compute p) result }
-    ensures leaves { Leaves s (layout_in steps.now processors.now)
-        (state_in values.old done.old delivered.now) (compute p)
-        (state_in values.new done.new delivered.now) }
+    tables: PlanTables,
+    state: RunState,
+) -> Result<Done, Refusal>
+    requires room { Room s.now.iterations (tables_layout tables) (state_lent state) }
+    ensures answers { Answers s.now.nest (tables_layout tables.entry)
+        (state_lent state.entry) (compute p) (answer_in result) }
+    ensures leaves { Leaves s.now.nest (tables_layout tables.entry)
+        (state_lent state.entry) (compute p)
+        (state_in state.exit.0.now state.exit.1.0.now state.exit.1.1.0.now) }
 {
     if processors_in(s) <= p {
-        return Answer::Refused(NO_SUCH_PLACE);
+        return Err(Refusal::NoSuchPlace);
     }
     let processor = p as u8;
-    let k = finding::next_iteration(steps, processors, done, iterations, processor);
-    if iterations <= k {
-        return Answer::Refused(IDLE_PROCESSOR);
+    let RunState {
+        values,
+        done,
+        delivered,
+    } = state;
+    let seen = Seen {
+        iterations: s.iterations,
+        processors: tables.processors,
+        done,
+        delivered,
+    };
+    let Some(k) = seen.next_iteration(tables.steps, processor) else {
+        return Err(Refusal::IdleProcessor);
+    };
+    if !seen.all_there(s, processor, k) {
+        return Err(Refusal::Waiting);
     }
-    if !finding::all_there(s, iterations, processors, done, delivered, processor, k) {
-        return Answer::Refused(WAITING);
-    }
-    let value = sequential::value_at(s, iterations, values, k);
+    let value = sequential::value_at(s, values, k);
     values[k] = value;
     done[k] = 1;
-    Answer::Computed(Computation {
-        rank: k,
-        value: value,
-    })
+    Ok(Done::Computed(Computation { rank: k, value }))
 }
 
-// A delivery of the message of iteration k along dependence i, both there, whose source has rank j
-// or is none of the iterations: its bit is set, if it is a message that can be delivered.
+// A delivery of a message, whose iteration and dependence are there, and of which the source is
+// known by its rank, or is none of the iterations: its bit is set, if it is a message that can be
+// delivered.
 pub fn deliver_from(
-    j: usize,
+    source: Option<usize>,
+    message: Delivery,
+    // Kept: `make_move` takes buffers that are longer, and promises of them whole (`Makes`).
     iterations: usize,
-    k: usize,
-    i: usize,
     processors: &[u8],
     done: &[u8],
     delivered: &mut [u8],
-) -> Answer
-    requires k_lt_iterations { (k < iterations) × (i < max_dependences) }
-    requires iterations_in_bounds { (iterations ≤ length processors.now) × (iterations ≤ length done.now)
+) -> Result<Done, Refusal>
+    requires place { (message.rank < iterations) × (message.dependence < max_dependences) }
+    requires room { (iterations ≤ length processors.now) × (iterations ≤ length done.now)
         × (iterations ≤ length delivered.old) }
-    ensures value { result ≡ delivery_answer
-        (ready_from j iterations processors.now done.now delivered.old k i) k i }
-    ensures delivered_after { delivered.new
-        ≡ delivery_left
-        (ready_from j iterations processors.now done.now delivered.old k i)
-        delivered.old k i }
+    ensures value { answer_in result ≡ delivery_answer
+        (ready_from (option_in source) iterations processors.now done.now delivered.old
+        message.rank message.dependence) message.rank message.dependence }
+    ensures delivered_after { delivered.new ≡ delivery_left
+        (ready_from (option_in source) iterations processors.now done.now delivered.old
+        message.rank message.dependence) delivered.old message.rank message.dependence }
 {
-    if !finding::is_ready(j, iterations, processors, done, delivered, k, i) {
-        return Answer::Refused(OUT_OF_TURN);
+    let seen = Seen {
+        iterations,
+        processors,
+        done,
+        delivered,
+    };
+    if !seen.is_ready(source, message) {
+        return Err(Refusal::OutOfTurn);
     }
-    delivered[k] = finding::with_bit(delivered[k], i);
-    Answer::Delivered(Delivery {
-        rank: k,
-        dependence: i,
-    })
+    let k = message.rank;
+    delivered[k] = finding::with_bit(delivered[k], message.dependence);
+    Ok(Done::Delivered(message))
 }
 
-// A delivery of the message of iteration k along dependence i, of an accepted nest of so many
-// iterations: its bit is set, if it is a message that can be delivered.
+// A delivery of a message, of an accepted nest: its bit is set, if it is a message that can be
+// delivered.
 fn deliver(
-    s: LoopNest,
-    iterations: usize,
-    k: usize,
-    i: usize,
+    s: &AcceptedNest,
+    message: Delivery,
     processors: &[u8],
     done: &[u8],
     delivered: &mut [u8],
-) -> Answer
-    requires s_value { (refusal s ≡ 0) × (iterations ≡ length (points_of s)) }
-    requires iterations_in_bounds { (iterations ≤ length processors.now) × (iterations ≤ length done.now)
-        × (iterations ≤ length delivered.old) }
-    ensures { Delivers s processors.now done.now delivered.old k i result
-        delivered.new }
+) -> Result<Done, Refusal>
+    requires { (s.now.iterations ≤ length processors.now) × (s.now.iterations ≤ length done.now)
+        × (s.now.iterations ≤ length delivered.old) }
+    ensures { Delivers s.now.nest processors.now done.now delivered.old
+        message.rank message.dependence (answer_in result) delivered.new }
 {
-    if iterations <= k {
-        return Answer::Refused(NO_SUCH_PLACE);
+    if s.iterations <= message.rank || s.count() <= message.dependence {
+        return Err(Refusal::NoSuchPlace);
     }
-    if nest::to_size(s.count) <= i {
-        return Answer::Refused(NO_SUCH_PLACE);
-    }
-    let point = nest::point_of(s, k);
-    let j = nest::source_at(s, point, i);
-    deliver_from(j, iterations, k, i, processors, done, delivered)
+    let point = s.point_of(message.rank);
+    let source = s.source_at(point, message.dependence);
+    deliver_from(source, message, s.iterations, processors, done, delivered)
 }
 
 // Makes the move that is asked for, on the step and processor tables of a plan and on the state's
-// three buffers, all of any content. Answers what the move did, or the number of its refusal, 2 to
-// 14, then 18, 17, 15 or 16, with no buffer changed.
+// three buffers, all of any content. Answers what the move did, or its refusal, 2 to 14, then 18,
+// 17, 15 or 16, with no buffer changed.
 pub fn make_move(
     s: LoopNest,
     request: Request,
@@ -209,37 +186,32 @@ pub fn make_move(
     values: &mut [u16],
     done: &mut [u8],
     delivered: &mut [u8],
-) -> Answer
+) -> Result<Done, Refusal>
     ensures { Makes s (layout_in steps.now processors.now)
         (state_in values.old done.old delivered.old)
-        (move_of request.what) result
+        (move_of request.what) (answer_in result)
         (state_in values.new done.new delivered.new) }
 {
-    let known = nest::inspect(s);
-    let iterations = known.iterations;
-    let refusal = check_call(
-        known.refusal,
-        iterations,
+    let accepted = nest::accept(s)?;
+    let rooms = [
         steps.len(),
         processors.len(),
         values.len(),
         done.len(),
         delivered.len(),
-    );
-    if refusal != 0 {
-        return Answer::Refused(refusal);
-    }
-    let what = request.what;
-    match what {
-        Move::Compute(p) => compute(s, iterations, p, steps, processors, values, done, delivered),
-        Move::Deliver(d) => deliver(
-            s,
-            iterations,
-            d.rank,
-            d.dependence,
-            processors,
-            done,
-            delivered,
-        ),
+    ];
+    nest::check_room(accepted.iterations, &rooms)?;
+    // Kept: which move is made is data of the caller's, so an enum is plainer than closures.
+    match request.what {
+        Move::Compute(p) => {
+            let tables = PlanTables { steps, processors };
+            let state = RunState {
+                values,
+                done,
+                delivered,
+            };
+            compute(&accepted, p, tables, state)
+        }
+        Move::Deliver(message) => deliver(&accepted, message, processors, done, delivered),
     }
 }

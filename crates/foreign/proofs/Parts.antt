@@ -26,7 +26,7 @@ unfolding numbers_of nest_in part tab
 numbers-back xs h = tab-list (λ i. get_or xs i (pos 0)) xs (pos 0) number_count h (λ i l. refl)
 
 -- an array as a part of itself
-whole : (xs : List ℤ) (n : ℕ) → length xs ≡ n → part xs 0 n ≡ xs
+pub whole : (xs : List ℤ) (n : ℕ) → length xs ≡ n → part xs 0 n ≡ xs
 unfolding part
 whole xs n h = tab-list (λ i. get_or xs (0 + i) (pos 0)) xs (pos 0) n h (λ i l. ap (λ k. get_or xs k (pos 0)) (omega arith))
 

@@ -4,17 +4,16 @@ use Rattle.std.specs.Prelude.{◌≡◌, true, false, List, [], ◌∷◌, ◌++
 use Rattle.nest.specs.declared.LoopNest.{LoopNest}
 use Rattle.nest.specs.Nest.{part, max_depth, max_dependences, max_cube}
 use Rattle.nest_text.specs.Fields.{Bytes}
-use Rattle.nest_text.specs.declared.Reading.{Reading}
+use Rattle.nest_text.specs.Answered.{Reading}
 use Rattle.nest_text.specs.Text.{Reads}
-use Rattle.rows.specs.declared.Span.{Span}
-use Rattle.planner.specs.declared.Planning.{Planning}
+use Rattle.rows.specs.Rows.{Span}
+use Rattle.planner.specs.Plan.{Planning}
 use Rattle.execution.specs.Rules as rules
 use Rattle.execution.specs.Run.{State}
 use Rattle.execution.specs.Entry.{move_of, number_of, Makes}
 use Rattle.execution.specs.declared.Move.{Move}
 use Rattle.execution.specs.declared.Move.TheVariants.{Compute, Deliver}
-use Rattle.execution.specs.declared.Answer.{Answer}
-use Rattle.execution.specs.declared.Answer.TheVariants.{Computed, Delivered, Refused}
+use Rattle.execution.specs.Answer.{Answer, Computed, Delivered, Refused}
 
 -- where the parts of a nest begin among its numbers, behind the depth, the number of
 -- dependences and the cube dimension

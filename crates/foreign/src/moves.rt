@@ -1,18 +1,20 @@
 // A move and its answer as numbers.
 ghost use Rattle.std.specs.Prelude.{◌≡◌, ◌≤◌, length};
-ghost use Rattle.execution.specs.Entry.{number_of, layout_in, state_in, move_of, Makes};
-ghost use Rattle.execution.specs.Inner.{Room, Answers, Leaves, Delivers};
+ghost use Rattle.nest.specs.Outcomes.{number_in};
+ghost use Rattle.execution.specs.Answer.{answer_in};
+ghost use Rattle.execution.specs.Entry.{layout_in, state_in, move_of, Makes};
+ghost use Rattle.execution.specs.Inner.{Delivers};
 ghost use Rattle.foreign.specs.Numbers.{move_in, made_in, nest_in};
-ghost use Rattle.nest.specs.Points.{points_of};
-ghost use Rattle.nest.specs.Refusals.{refusal};
 
-use crate::nests::{NUMBERS, inspect_in, nest_in, source_in};
-use execution::{Answer, Delivery, Move, NO_SUCH_PLACE};
-use nest::LoopNest;
+use crate::nests::{AcceptedNumbers, NUMBERS, accept_in};
+use execution::{Delivery, Done, Move, PlanTables, RunState};
+use nest::{LoopNest, Refusal};
 
 // The kinds of a move, numbered as in the machine's log.
+// Kept: the C interface gives a kind as a number (`rowlock_move`, whose contract cites `move_in`).
 pub const COMPUTE: usize = 1;
 
+// Kept: the same.
 pub const DELIVER: usize = 2;
 
 // A processor that no machine has: the number behind the last of the largest hypercube.
@@ -20,110 +22,66 @@ const NO_PROCESSOR: usize = 1 << LoopNest::MAX_CUBE;
 
 // The move that numbers ask for: a kind that is neither asks for a compute on a processor that is
 // not there, which is refused with 18.
+// Kept: `From` cannot stand in this crate, where neither numbers nor `Move` are its own.
 pub fn move_in(kind: usize, first: usize, second: usize) -> Move
     ensures { result ≡ move_in kind first second }
 {
-    if kind == COMPUTE {
-        return Move::Compute(first);
-    }
-    if kind == DELIVER {
-        return Move::Deliver(Delivery {
+    match kind {
+        COMPUTE => Move::Compute(first),
+        DELIVER => Move::Deliver(Delivery {
             rank: first,
             dependence: second,
-        });
+        }),
+        _ => Move::Compute(NO_PROCESSOR),
     }
-    Move::Compute(NO_PROCESSOR)
 }
 
-// The number of an answer: 0 for a move that is made.
-pub fn number_of(answer: Answer) -> u8
-    ensures { result ≡ number_of answer }
+// The number of an answer: 0 for a call that is done, or the number of its refusal.
+pub fn number_of<T>(answer: &Result<T, Refusal>) -> u8
+    ensures { result ≡ number_in answer.now }
 {
     match answer {
-        Answer::Computed(c) => 0,
-        Answer::Delivered(d) => 0,
-        Answer::Refused(number) => number,
+        Ok(_) => 0,
+        Err(refusal) => u8::from(*refusal),
     }
 }
 
 // What an answer carries.
-pub fn made_in(answer: Answer) -> [usize; 2]
-    ensures { result ≡ made_in answer }
+// Kept: `From` cannot stand in this crate, where neither the answer nor numbers are its own.
+pub fn made_in(answer: Result<Done, Refusal>) -> [usize; 2]
+    ensures { result ≡ made_in (answer_in answer) }
 {
-    match answer {
-        Answer::Computed(c) => [c.rank, c.value as usize],
-        Answer::Delivered(d) => [d.rank, d.dependence],
-        Answer::Refused(number) => [0, 0],
+    let Ok(made) = answer else {
+        return [0, 0];
+    };
+    match made {
+        Done::Computed(c) => [c.rank, c.value as usize],
+        Done::Delivered(d) => [d.rank, d.dependence],
     }
 }
 
-// `deliver` of the nest that 63 numbers are, accepted and of so many iterations.
+// A delivery of a message, of an accepted nest.
 fn deliver_in(
-    numbers: &[i64; NUMBERS],
-    iterations: usize,
-    k: usize,
-    i: usize,
+    s: &AcceptedNumbers,
+    message: Delivery,
     processors: &[u8],
     done: &[u8],
     delivered: &mut [u8],
-) -> Answer
-    requires numbers_value { (refusal (nest_in numbers.now) ≡ 0)
-        × (iterations ≡ length (points_of (nest_in numbers.now))) }
-    requires iterations_in_bounds { (iterations ≤ length processors.now) × (iterations ≤ length done.now)
-        × (iterations ≤ length delivered.old) }
-    ensures { Delivers (nest_in numbers.now) processors.now done.now
-        delivered.old k i result delivered.new }
+) -> Result<Done, Refusal>
+    requires { (s.now.iterations ≤ length processors.now) × (s.now.iterations ≤ length done.now)
+        × (s.now.iterations ≤ length delivered.old) }
+    ensures { Delivers (nest_in s.now.numbers.now) processors.now done.now
+        delivered.old message.rank message.dependence (answer_in result) delivered.new }
 {
-    if iterations <= k {
-        return Answer::Refused(NO_SUCH_PLACE);
+    if s.iterations <= message.rank || s.count() <= message.dependence {
+        return Err(Refusal::NoSuchPlace);
     }
-    if nest::to_size(numbers[1]) <= i {
-        return Answer::Refused(NO_SUCH_PLACE);
-    }
-    let j = source_in(numbers, iterations, k, i);
-    execution::deliver_from(j, iterations, k, i, processors, done, delivered)
+    let source = s.source(message.rank, message.dependence);
+    execution::deliver_from(source, message, s.iterations, processors, done, delivered)
 }
 
-// The move that is asked for, of the accepted nest of so many iterations that 63 numbers are, which
-// is copied for a compute alone.
-fn move_on(
-    numbers: &[i64; NUMBERS],
-    iterations: usize,
-    what: Move,
-    steps: &[u32],
-    processors: &[u8],
-    values: &mut [u16],
-    done: &mut [u8],
-    delivered: &mut [u8],
-) -> Answer
-    requires numbers_value { (refusal (nest_in numbers.now) ≡ 0)
-        × (iterations ≡ length (points_of (nest_in numbers.now))) }
-    requires room { Room iterations (layout_in steps.now processors.now)
-        (state_in values.old done.old delivered.old) }
-    ensures answers { Answers (nest_in numbers.now) (layout_in steps.now processors.now)
-        (state_in values.old done.old delivered.old) (move_of what) result }
-    ensures leaves { Leaves (nest_in numbers.now) (layout_in steps.now processors.now)
-        (state_in values.old done.old delivered.old) (move_of what)
-        (state_in values.new done.new delivered.new) }
-{
-    match what {
-        Move::Compute(p) => {
-            let s = nest_in(numbers);
-            execution::compute(s, iterations, p, steps, processors, values, done, delivered)
-        }
-        Move::Deliver(d) => deliver_in(
-            numbers,
-            iterations,
-            d.rank,
-            d.dependence,
-            processors,
-            done,
-            delivered,
-        ),
-    }
-}
-
-// `make_move` of the nest that 63 numbers are, which stays where it is.
+// `make_move` of the nest that 63 numbers are, which stays where it is, and is copied for a compute
+// alone.
 pub fn make_move_in(
     numbers: &[i64; NUMBERS],
     what: Move,
@@ -132,27 +90,32 @@ pub fn make_move_in(
     values: &mut [u16],
     done: &mut [u8],
     delivered: &mut [u8],
-) -> Answer
+) -> Result<Done, Refusal>
     ensures { Makes (nest_in numbers.now) (layout_in steps.now processors.now)
         (state_in values.old done.old delivered.old)
-        (move_of what) result
+        (move_of what) (answer_in result)
         (state_in values.new done.new delivered.new) }
 {
-    let known = inspect_in(numbers);
-    let iterations = known.iterations;
-    let refusal = execution::check_call(
-        known.refusal,
-        iterations,
+    let accepted = accept_in(numbers)?;
+    let rooms = [
         steps.len(),
         processors.len(),
         values.len(),
         done.len(),
         delivered.len(),
-    );
-    if refusal != 0 {
-        return Answer::Refused(refusal);
+    ];
+    nest::check_room(accepted.iterations, &rooms)?;
+    // Kept: which move is made is data of the caller's, so an enum is plainer than closures.
+    match what {
+        Move::Compute(p) => {
+            let tables = PlanTables { steps, processors };
+            let state = RunState {
+                values,
+                done,
+                delivered,
+            };
+            execution::compute(&accepted.nest(), p, tables, state)
+        }
+        Move::Deliver(message) => deliver_in(&accepted, message, processors, done, delivered),
     }
-    move_on(
-        numbers, iterations, what, steps, processors, values, done, delivered,
-    )
 }

@@ -1,16 +1,16 @@
 // A nest as 63 numbers in a row, in the order of LoopNest's fields.
-ghost use Rattle.std.specs.Prelude.{◌≡◌, ◌+◌, ◌≤◌, ◌<◌, length};
+ghost use Rattle.std.specs.Prelude.{◌≡◌, ◌+◌, ◌≤◌, ◌<◌, length, IfOk};
 ghost use Rattle.std.proofs.lemmas.List.Edits.{sets};
-ghost use Rattle.nest.specs.Nest.{part, count_of};
-ghost use Rattle.foreign.specs.Numbers.{nest_in, numbers_of, number_count};
+ghost use Rattle.nest.specs.Nest.{count_of};
+ghost use Rattle.nest.specs.NestParts.{nest_of};
+ghost use Rattle.nest.specs.Outcomes.{number_in};
 ghost use Rattle.nest.specs.Points.{points_of};
-ghost use Rattle.nest.specs.Refusals.{refusal, Inspects};
-ghost use Rattle.nest.specs.Sources.{IsSource};
+ghost use Rattle.nest.specs.Refusals.{refusal};
+ghost use Rattle.nest.specs.Sources.{source_rank};
+ghost use Rattle.execution.specs.Inner.{option_in};
+ghost use Rattle.foreign.specs.Numbers.{nest_in, numbers_of};
 
-use nest::{Inspection, LoopNest};
-
-// How many numbers its dependences have.
-const COMPONENTS: usize = LoopNest::MAX_DEPTH * LoopNest::MAX_DEPENDENCES;
+use nest::{AcceptedNest, LoopNest, NestParts, Refusal};
 
 // Where the parts of a nest begin; the depth, the number of dependences and the cube
 // dimension stand before them.
@@ -22,128 +22,119 @@ const TIME: usize = UPPER + LoopNest::MAX_DEPTH;
 
 const DEPENDENCES: usize = TIME + LoopNest::MAX_DEPTH;
 
-const BOUNDARIES: usize = DEPENDENCES + COMPONENTS;
+const BOUNDARIES: usize = DEPENDENCES + LoopNest::MAX_DEPTH * LoopNest::MAX_DEPENDENCES;
 
 const WEIGHTS: usize = BOUNDARIES + LoopNest::MAX_DEPENDENCES;
 
 // How many numbers a nest has.
 pub const NUMBERS: usize = WEIGHTS + LoopNest::MAX_DEPENDENCES;
 
-// Copies so many numbers, from place `from` of one array on, to place `at` of
-// another and those behind it.
-fn copy(out: &mut [i64], at: usize, numbers: &[i64], from: usize, count: usize)
-    requires { (at + count ≤ length out.old) × (from + count ≤ length numbers.now) }
-    ensures { out.new ≡ sets out.old at (part numbers.now from count) }
-{
-    for k in 0..count {
-        out[at + k] = numbers[from + k];
-    }
-}
-
 // The nest that 63 numbers are.
+// Kept: `From` cannot stand in this crate, where neither numbers nor `LoopNest` are its own.
 pub fn nest_in(numbers: &[i64; NUMBERS]) -> LoopNest
     ensures { result ≡ nest_in numbers.now }
 {
-    let mut lower = [0i64; LoopNest::MAX_DEPTH];
-    copy(&mut lower, 0, numbers, LOWER, LoopNest::MAX_DEPTH);
-    let mut upper = [0i64; LoopNest::MAX_DEPTH];
-    copy(&mut upper, 0, numbers, UPPER, LoopNest::MAX_DEPTH);
-    let mut time = [0i64; LoopNest::MAX_DEPTH];
-    copy(&mut time, 0, numbers, TIME, LoopNest::MAX_DEPTH);
-    let mut dependences = [0i64; COMPONENTS];
-    copy(&mut dependences, 0, numbers, DEPENDENCES, COMPONENTS);
-    let mut boundaries = [0i64; LoopNest::MAX_DEPENDENCES];
-    copy(
-        &mut boundaries,
-        0,
-        numbers,
-        BOUNDARIES,
-        LoopNest::MAX_DEPENDENCES,
-    );
-    let mut weights = [0i64; LoopNest::MAX_DEPENDENCES];
-    copy(&mut weights, 0, numbers, WEIGHTS, LoopNest::MAX_DEPENDENCES);
-    LoopNest {
-        depth: numbers[0],
-        count: numbers[1],
-        cube: numbers[2],
-        lower: lower,
-        upper: upper,
-        time: time,
-        dependences: dependences,
-        boundaries: boundaries,
-        weights: weights,
-    }
+    let mut s = LoopNest::empty().with_shape(numbers[0], numbers[1], numbers[2]);
+    s.lower.copy_from_slice(&numbers[LOWER..UPPER]);
+    s.upper.copy_from_slice(&numbers[UPPER..TIME]);
+    s.time.copy_from_slice(&numbers[TIME..DEPENDENCES]);
+    s.dependences
+        .copy_from_slice(&numbers[DEPENDENCES..BOUNDARIES]);
+    s.boundaries.copy_from_slice(&numbers[BOUNDARIES..WEIGHTS]);
+    s.weights.copy_from_slice(&numbers[WEIGHTS..NUMBERS]);
+    s
 }
 
-// `inspect` of the nest that 63 numbers are, which stays where it is.
-pub fn inspect_in(numbers: &[i64]) -> Inspection
-    requires { length numbers.now ≡ number_count }
-    ensures { Inspects (nest_in numbers.now) result }
+// Puts numbers over a part of others, from place `at` on.
+fn put(out: &mut [i64], at: usize, numbers: &[i64])
+    requires { at + length numbers.now ≤ length out.old }
+    ensures { out.new ≡ sets out.old at numbers.now }
 {
-    nest::inspect_parts(
-        numbers[0],
-        numbers[1],
-        numbers[2],
-        &numbers[LOWER..UPPER],
-        &numbers[UPPER..TIME],
-        &numbers[TIME..DEPENDENCES],
-        &numbers[DEPENDENCES..BOUNDARIES],
-        &numbers[BOUNDARIES..WEIGHTS],
-        &numbers[WEIGHTS..NUMBERS],
-    )
-}
-
-// The rank of the source of iteration k along dependence i, of the accepted nest of so many
-// iterations that 63 numbers are; their number where the source is none of them.
-pub fn source_in(numbers: &[i64], iterations: usize, k: usize, i: usize) -> usize
-    requires numbers_len { length numbers.now ≡ number_count }
-    requires numbers_value { (refusal (nest_in numbers.now) ≡ 0)
-        × (iterations ≡ length (points_of (nest_in numbers.now)))
-        × (k < iterations) × (i < count_of (nest_in numbers.now)) }
-    ensures { IsSource (nest_in numbers.now) k i result }
-{
-    let depth = nest::to_size(numbers[0]);
-    nest::source_rank(
-        &numbers[LOWER..UPPER],
-        &numbers[UPPER..TIME],
-        &numbers[DEPENDENCES..BOUNDARIES],
-        depth,
-        iterations,
-        k,
-        i,
-    )
+    out[at..at + numbers.len()].copy_from_slice(numbers);
 }
 
 // The 63 numbers of a nest.
+// Kept: `From` cannot stand in this crate, where neither `LoopNest` nor numbers are its own.
 pub fn numbers_of(s: LoopNest) -> [i64; NUMBERS]
     ensures { result ≡ numbers_of s }
 {
     let mut numbers = [0i64; NUMBERS];
-    let shape = [s.depth, s.count, s.cube];
-    copy(&mut numbers, 0, &shape, 0, 3);
-    let lower = s.lower;
-    copy(&mut numbers, LOWER, &lower, 0, LoopNest::MAX_DEPTH);
-    let upper = s.upper;
-    copy(&mut numbers, UPPER, &upper, 0, LoopNest::MAX_DEPTH);
-    let time = s.time;
-    copy(&mut numbers, TIME, &time, 0, LoopNest::MAX_DEPTH);
-    let dependences = s.dependences;
-    copy(&mut numbers, DEPENDENCES, &dependences, 0, COMPONENTS);
-    let boundaries = s.boundaries;
-    copy(
-        &mut numbers,
-        BOUNDARIES,
-        &boundaries,
-        0,
-        LoopNest::MAX_DEPENDENCES,
-    );
-    let weights = s.weights;
-    copy(
-        &mut numbers,
-        WEIGHTS,
-        &weights,
-        0,
-        LoopNest::MAX_DEPENDENCES,
-    );
+    put(&mut numbers, 0, &[s.depth, s.count, s.cube]);
+    put(&mut numbers, LOWER, &s.lower);
+    put(&mut numbers, UPPER, &s.upper);
+    put(&mut numbers, TIME, &s.time);
+    put(&mut numbers, DEPENDENCES, &s.dependences);
+    put(&mut numbers, BOUNDARIES, &s.boundaries);
+    put(&mut numbers, WEIGHTS, &s.weights);
     numbers
+}
+
+// The nest that 63 numbers are, lent in its parts, which stay where they are.
+fn parts_in<'a>(numbers: &'a [i64; NUMBERS]) -> NestParts<'a>
+    ensures { nest_of result ≡ nest_in numbers.now }
+{
+    NestParts {
+        depth: numbers[0],
+        count: numbers[1],
+        cube: numbers[2],
+        lower: &numbers[LOWER..UPPER],
+        upper: &numbers[UPPER..TIME],
+        time: &numbers[TIME..DEPENDENCES],
+        dependences: &numbers[DEPENDENCES..BOUNDARIES],
+        boundaries: &numbers[BOUNDARIES..WEIGHTS],
+        weights: &numbers[WEIGHTS..NUMBERS],
+    }
+}
+
+// 63 numbers that are an accepted nest, which stay where they are, and how many iterations it has.
+#[derive(Clone, Copy)]
+pub struct AcceptedNumbers<'a> {
+    pub numbers: &'a [i64; NUMBERS],
+    pub iterations: usize,
+    ghost accepted: { refusal (nest_in numbers.now) ≡ 0 },
+    ghost counted: { iterations ≡ length (points_of (nest_in numbers.now)) },
+}
+
+// `accept` of the nest that 63 numbers are.
+pub fn accept_in<'a>(numbers: &'a [i64; NUMBERS]) -> Result<AcceptedNumbers<'a>, Refusal>
+    ensures number { number_in result ≡ refusal (nest_in numbers.now) }
+    ensures same_numbers { IfOk result (λ accepted. accepted.numbers.now ≡ numbers.now) }
+{
+    let iterations = nest::inspect_parts(&parts_in(numbers))?;
+    Ok(AcceptedNumbers {
+        numbers,
+        iterations,
+    })
+}
+
+impl AcceptedNumbers<'_> {
+    // How many dependences it has.
+    pub fn count(&self) -> usize
+        ensures { result ≡ count_of (nest_in self.now.numbers.now) }
+    {
+        nest::to_size(self.numbers[1])
+    }
+
+    // A copy of the nest.
+    pub fn nest(&self) -> AcceptedNest
+        ensures { (result.nest ≡ nest_in self.now.numbers.now)
+            × (result.iterations ≡ self.now.iterations) }
+    {
+        AcceptedNest {
+            nest: nest_in(self.numbers),
+            iterations: self.iterations,
+        }
+    }
+
+    // The rank of the source of iteration k along dependence i; none where the source is none of
+    // the iterations.
+    pub fn source(&self, k: usize, i: usize) -> Option<usize>
+        requires { (k < self.now.iterations) × (i < count_of (nest_in self.now.numbers.now)) }
+        ensures { option_in result ≡ source_rank (nest_in self.now.numbers.now) k i }
+    {
+        let nest = parts_in(self.numbers);
+        let n = nest::to_size(nest.depth);
+        let dependence = nest::dependence_at(nest.dependences, n, i);
+        nest::source_rank(&nest.lower[..n], &nest.upper[..n], dependence, k)
+    }
 }

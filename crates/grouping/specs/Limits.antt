@@ -7,6 +7,10 @@ use Rattle.numbering.specs.Limits.{components, max_coordinate}
 abbrev pub max_vectors : ℕ
 max_vectors = 8
 
+-- how many of them may be chosen
+abbrev pub max_chosen : ℕ
+max_chosen = 3
+
 -- how large a component of the time vector or of a vector to choose from may be, either side of 0
 abbrev pub max_component : ℕ
 max_component = 16

@@ -1,6 +1,6 @@
 -- What the machine's `/` and `%` need and give at an `i64`, and the laws of division that rounds
 -- down. Assumes nothing.
-use mathlib.Core.Path.{◌≡◌, refl, sym, ◌∙◌, ap, subst, subst₂}
+use mathlib.Core.Path.{◌≡◌, refl, sym, ◌∙◌, ap, subst}
 use mathlib.Core.Logic.{◌⊎◌, inl, inr, ⊎_elim}
 use Prim.Native.Nat.{ℕ, zero, suc, ◌+◌, ◌*◌, ◌/◌, ◌%◌, ◌≤◌, ◌<◌, zero-le, suc-le-suc}
 use native.Mathlib.Nat as NatL
@@ -13,13 +13,14 @@ use mir.Val.{Fits, SFits, of_z}
 use mir.Facts.{to_z-of_z, Fits-nat_abs, sfits_lit}
 use Rattle.integers.proofs.Bounds.{Has, param, need_op, op_is}
 use Rattle.integers.proofs.Tests.{same}
-use Rattle.integers.proofs.Linear.{ints, sum, opp, sizes}
+use Rattle.integers.proofs.Linear.{ints, sum, dif, opp, sizes}
 use Rattle.integers.proofs.Machine.{reads}
 use Rattle.integers.proofs.Order.{*-cancel-<, ≤→diff, <→diff, decide}
 use Rattle.integers.proofs.Certify.{≤-by, <-by}
 use Rattle.integers.proofs.Solver.{var, con, ◌⊕◌, ◌⊖◌, ◌⊗◌}
 use mathlib.Core.List.{[], ◌∷◌}
 use Rattle.integers.proofs.Ring.{distr, *ℤ_idl, neg-*, nat_abs-neg, nat_abs-*}
+use Rattle.std.specs.Int.{int_div_euclid, int_rem_euclid}
 use Rattle.integers.specs.Division.{floor_div, Floor, left_over, Divides}
 
 -- ---- the machine's division by a positive number
@@ -42,18 +43,6 @@ rem_fits {a} r f = record { sfits = NatL.lt_of_le_of_lt (mag_rem a r) f.sfits }
 pub bits_pos : (r : ℤ) → pos 1 ≤ℤ r → 0 < of_z w64 r
 bits_pos (pos r) h = omega ints
 bits_pos (negsuc r) h = absurd h.le
-
-module _ {a r : ℤ} (fa : SFits w64 a) (fr : SFits w64 r) (h : pos 1 ≤ℤ r) where
-  -- answers `Need-div-..` and `Need-rem-..`
-  pub need_div : (0 < of_z w64 r) × SFits w64 (quot_z (reads a) (reads r))
-  need_div = (bits_pos r h, subst₂ (λ (x y : ℤ). SFits w64 (quot_z x y)) (sym (to_z-of_z fa)) (sym (to_z-of_z fr)) (quot_fits fa h))
-
-  -- what is read back of the result
-  pub quot_is : reads (quot_z (reads a) (reads r)) ≡ quot_z a r
-  quot_is = ap reads (ap (λ (x : ℤ). quot_z x (reads r)) (to_z-of_z fa) ∙ ap (λ (x : ℤ). quot_z a x) (to_z-of_z fr)) ∙ to_z-of_z (quot_fits fa h)
-
-  pub rem_is : reads (rem_z (reads a) (reads r)) ≡ rem_z a r
-  rem_is = ap reads (ap (λ (x : ℤ). rem_z x (reads r)) (to_z-of_z fa) ∙ ap (λ (x : ℤ). rem_z a x) (to_z-of_z fr)) ∙ to_z-of_z (rem_fits r fa)
 
 -- the bits of a number that is not negative are the number
 pub bits_nat : (z : ℤ) → pos 0 ≤ℤ z → of_z w64 z ≡ nat_abs z
@@ -218,3 +207,25 @@ module _ {p P S : ℤ} (h : Has p P) (f : SFits w64 S) (one : pos 1 ≤ℤ S) wh
 
   pub divides_no : (of_z w64 (rem_z p (reads S)) ≡ 0 → ⊥) → Divides S P → ⊥
   divides_no n d = n (ap (of_z w64) (op_is rem_z h.has (to_z-of_z f) ∙ divides→rem_zero P S d))
+
+-- ---- the library's methods
+
+-- what `div_euclid` answers by a divisor above zero is the quotient rounded down
+pub euclid_is : (a r : ℤ) → pos 1 ≤ℤ r → int_div_euclid a r ≡ floor_div a r
+unfolding floor_div
+euclid_is (pos a) (pos r) h = refl
+euclid_is (negsuc a) (pos r) h = refl
+euclid_is a (negsuc r) h = absurd h.le
+
+-- what `rem_euclid` answers by a number that is not zero is what is left over by its size
+pub left_is : (a : ℤ) (r : ℕ) → 1 ≤ r → int_rem_euclid a (pos r) ≡ left_over a (pos r)
+unfolding left_over floor_div
+left_is (pos a) r h = omega (ints, dif (pos a) (pos (a / r * r)), NatL.div-add-mod' a r)
+left_is (negsuc a) r h = omega (ints, dif (negsuc a) (negsuc (a / r) *ℤ pos r), opp (pos (suc (a / r) * r)), NatL.div-add-mod' a r, NatL.mod-lt a {m = r} h)
+
+pub rem_euclid_is : (a d : ℤ) → (d ≡ pos 0 → ⊥) → int_rem_euclid a d ≡ left_over a (pos (nat_abs d))
+rem_euclid_is a (pos zero) n = absurd (n refl)
+rem_euclid_is (pos a) (pos (suc m)) n = left_is (pos a) (suc m) (omega arith)
+rem_euclid_is (negsuc a) (pos (suc m)) n = left_is (negsuc a) (suc m) (omega arith)
+rem_euclid_is (pos a) (negsuc m) n = left_is (pos a) (suc m) (omega arith)
+rem_euclid_is (negsuc a) (negsuc m) n = left_is (negsuc a) (suc m) (omega arith)

@@ -9,6 +9,10 @@ use native.Mathlib.Omega.{arith}
 use lib.ListN.{length, take, drop, get_or, replicate}
 use lib.IntN.{ℤ, pos, negsuc, nat_abs, ◌+ℤ◌, ◌-ℤ◌, ◌*ℤ◌, +ℤ_assoc, +ℤ_comm, +ℤ_idl, +ℤ_idr, zero-*ℤ, *ℤ-zero, *ℤ_comm}
 use lib.Signed.{◌≤ℤ◌}
+use Rattle.std.specs.Bool.{one_answer}
+use Rattle.std.specs.Cmp.Lexicographic.{pointwise}
+use Rattle.std.specs.Cmp.Rules.{signed_items}
+use Rattle.std.specs.Ordering.{int_eq}
 use Rattle.integers.proofs.Ring.{distr, distl, *ℤ_assoc, *ℤ_idl, zero-factor}
 use Rattle.integers.proofs.Linear.{ints, sum}
 use Rattle.integers.proofs.Order.{square_nonneg}
@@ -298,6 +302,10 @@ pub eq_v_other : (v w : Vector) → (v ≡ w → ⊥) → eq_v v w ≡ false
 eq_v_other v w h = split (eq_v v w) (λ t. absurd (h (eq_v_true v w t))) (λ e. e)
 
 -- ---- the product of a vector with itself, and vectors whose components are all 0
+
+-- what `==` answers at vectors
+pub equal_answers : (v w : Vector) → pointwise int_eq v w ≡ eq_v v w
+equal_answers v w = one_answer (pointwise int_eq v w) (eq_v v w) (signed_items v w) (eq_v_true v w, eq_v-same v w)
 
 -- it is not negative
 pub self_nonneg : (v : Vector) → pos 0 ≤ℤ dots v v

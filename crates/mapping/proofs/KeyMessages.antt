@@ -1,10 +1,11 @@
 -- The messages to an iteration whose sources are found in a table of keys are the nest's own. Assumes nothing.
 use mathlib.Core.Path.{◌≡◌, refl, sym, ap, ap₂, ◌∙◌}
-use mathlib.Core.Bool.{Bool, not, ◌&&◌}
+use mathlib.Core.Bool.{Bool, true, false, not, ◌&&◌}
 use mathlib.Core.List.{List}
 use Prim.Native.Nat.{ℕ, zero, suc, ◌+◌, ◌<◌, ◌≤◌}
 use native.Mathlib.Numerals.{add-one}
 use native.Mathlib.Omega.{arith}
+use borrow.Author.Tests.{lt-ltb, le-ltb, eq-eqb, ne_eqb}
 use lib.Dec.{eqb, ltb}
 use lib.IntN.{ℤ, pos}
 use lib.ListN.{length, get_or, take}
@@ -16,7 +17,7 @@ use Rattle.sources.specs.Keys.{source_in}
 use Rattle.sources.proofs.Cursors.{OfNest, keyed-length, keyed-source}
 use Rattle.mapping.specs.ByKeys.{elsewhere_in, messages_in}
 use Rattle.mapping.specs.Mapping.{is_message}
-use Rattle.integers.proofs.Sums.{one-most, count_none, count-tab-more}
+use Rattle.integers.proofs.Sums.{count_none, count-tab-more}
 use Rattle.mapping.proofs.Messages.{message-is}
 
 -- ---- one dependence after the other
@@ -29,12 +30,37 @@ module _ (keys distances : List ℤ) (ps : List ℕ) (k : ℕ) where
   pub messages-none : messages_to 0 ≡ 0
   messages-none = count_none (elsewhere_in keys distances ps k) (λ (i : ℕ). i)
 
-  -- one more, as the loop has it
-  pub messages_next : (i j acc x : ℕ) → acc ≡ messages_to i → j ≡ source_in keys k (get_or distances i (pos 0)) → x ≡ one_if (ltb j (length keys) && not (eqb (get_or ps j 0) (get_or ps k 0))) → (acc + x ≡ messages_to (i + 1)) × (x ≤ 1)
-  unfolding elsewhere_in
-  messages_next i j acc x e p q =
-      let t = q ∙ ap (λ a. one_if (ltb a (length keys) && not (eqb (get_or ps a 0) (get_or ps k 0)))) p in
-      (omega (arith, count-tab-more (elsewhere_in keys distances ps k) (λ (i : ℕ). i) i), omega (arith, q, one-most (ltb j (length keys) && not (eqb (get_or ps j 0) (get_or ps k 0)))))
+  -- one more
+  messages_more : (i acc : ℕ) → acc ≡ messages_to i → acc + one_if (elsewhere_in keys distances ps k i) ≡ messages_to (i + 1)
+  messages_more i acc e = omega (arith, e, count-tab-more (elsewhere_in keys distances ps k) (λ (i : ℕ). i) i)
+
+  -- its source is no iteration
+  pub messages_missing : (i acc : ℕ) → acc ≡ messages_to i → source_in keys k (get_or distances i (pos 0)) ≡ length keys → acc ≡ messages_to (i + 1)
+  unfolding elsewhere_in one_if
+  messages_missing i acc e p =
+      let t : ltb (source_in keys k (get_or distances i (pos 0))) (length keys) ≡ false = le-ltb _ _ (omega (arith, p)) in
+      let x : one_if (elsewhere_in keys distances ps k i) ≡ 0 = rw t refl in
+      omega (arith, messages_more i acc e, x)
+
+  module _ (i j acc : ℕ) (e : acc ≡ messages_to i) (h : j < length keys) (p : j ≡ source_in keys k (get_or distances i (pos 0))) where
+    inside : ltb (source_in keys k (get_or distances i (pos 0))) (length keys) ≡ true
+    inside = lt-ltb _ _ (omega (arith, h, p))
+
+    -- it is on the same processor
+    pub messages-same : get_or ps j 0 ≡ get_or ps k 0 → acc ≡ messages_to (i + 1)
+    unfolding elsewhere_in one_if
+    messages-same q =
+        let t : eqb (get_or ps (source_in keys k (get_or distances i (pos 0))) 0) (get_or ps k 0) ≡ true = eq-eqb _ _ (ap (λ a. get_or ps a 0) (sym p) ∙ q) in
+        let x : one_if (elsewhere_in keys distances ps k i) ≡ 0 = rw (inside, t) refl in
+        omega (arith, messages_more i acc e, x)
+
+    -- it is on another
+    pub messages-other : (get_or ps j 0 ≡ get_or ps k 0 → ⊥) → acc + 1 ≡ messages_to (i + 1)
+    unfolding elsewhere_in one_if
+    messages-other q =
+        let t : eqb (get_or ps (source_in keys k (get_or distances i (pos 0))) 0) (get_or ps k 0) ≡ false = ne_eqb _ _ (λ a. q (ap (λ b. get_or ps b 0) p ∙ a)) in
+        let x : one_if (elsewhere_in keys distances ps k i) ≡ 1 = rw (inside, t) refl in
+        omega (arith, messages_more i acc e, x)
 
   -- all
   pub messages-all : (i m acc : ℕ) → acc ≡ messages_to i → i ≡ m → acc ≡ messages_in keys distances ps k m

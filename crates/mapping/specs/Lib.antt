@@ -7,3 +7,5 @@ pub mod GrayCodes
 pub mod GroupNumbers
 -- Messages as they are counted from a table of the index points' keys.
 pub mod ByKeys
+-- Directions as the code holds them.
+pub mod Held

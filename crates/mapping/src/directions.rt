@@ -1,46 +1,74 @@
-// The directions of a table of groups: the least value and the width of each (document 01: cards).
-ghost use Rattle.std.specs.Prelude.{◌≡◌, ◌<◌, ◌≤◌};
-ghost use Rattle.nest.specs.Nest.{max_depth, max_iterations};
-ghost use Rattle.mapping.specs.GroupNumbers.{column_of, RowsInSpan, column, span_of, directions_in, held, no_bits};
+// The directions of a table of groups, their parts and Gray codes (000, algorithm 2; document 01:
+// cards).
+ghost use Rattle.std.specs.Prelude.{◌≡◌, ◌+◌, ◌^◌, ◌<◌, ◌≤◌, nat_abs, ◌-ℤ◌, ◌≤ℤ◌, length};
+ghost use Rattle.nest.specs.Nest.{to_ℕ, max_depth, max_cube, max_iterations};
+ghost use Rattle.mapping.specs.Mapping.{next_turn, takes_bit, part_of, gray};
+ghost use Rattle.mapping.specs.GroupNumbers.{max_number, column_of, RowsInSpan, column, span_of, directions_in};
+ghost use Rattle.mapping.specs.Held.{direction_of, held, HoldsValue};
 
-use crate::dealing::next_turn;
-use crate::parts::height;
+use crate::gray::gray_of;
 use nest::LoopNest;
+use numbering::Row;
 
-// Numbers a row of the table of groups: class, q, and the coordinates along the auxiliary vectors.
-pub const ROW: usize = numbering::COMPONENTS;
-
-// A direction with no bits: its least value and its width.
-#[derive(Clone, Copy)]
-struct Reach {
-    least: i64,
-    width: u64,
-}
-
-// The direction whose values are the numbers j of so many rows.
-fn reach_in(rows: &[i64], j: usize, count: usize) -> Reach
-    requires { (1 ≤ count) × (count ≤ max_iterations) × (j < max_depth) × RowsInSpan rows.now count }
-    ensures { (result.least ≡ (span_of (column rows.now j count)).least)
-        × (result.width ≡ (span_of (column rows.now j count)).width) }
+// 2^e.
+pub fn power(e: u64) -> u64
+    requires { e < 64 }
+    ensures { result ≡ 2 ^ e }
 {
-    let mut least = rows[j];
-    let mut greatest = least;
-    for k in 1..count {
-        let value = rows[k * ROW + j];
-        least = integers::lesser(least, value);
-        greatest = integers::larger(greatest, value);
+    1u64 << e
+}
+
+// How far a value is above the least.
+fn height(least: i64, value: i64) -> u64
+    requires { (nat_abs least ≤ max_number) × (nat_abs value ≤ max_number) × (least ≤ℤ value) }
+    ensures { result ≡ to_ℕ (value -ℤ least) }
+{
+    (value - least) as u64
+}
+
+// A direction: the least value and the width over all groups, and the bits that it was dealt.
+#[derive(Clone, Copy)]
+pub struct Direction {
+    pub least: i64,
+    pub width: u64,
+    pub bits: u64,
+}
+
+impl Direction {
+    // Whether it takes another bit.
+    pub fn takes_bit(self) -> bool
+        requires { self.bits ≤ max_cube }
+        ensures { result ≡ takes_bit (direction_of self) }
+    {
+        power(self.bits + 1) <= self.width
     }
-    Reach {
-        least: least,
-        width: height(least, greatest) + 1,
+
+    // The part of a value. A direction without a bit has one part, part 0.
+    fn part_of(self, value: i64) -> u64
+        requires { HoldsValue (direction_of self) value }
+        ensures { result ≡ part_of (direction_of self) value }
+    {
+        if self.bits == 0 {
+            return 0;
+        }
+        height(self.least, value) * power(self.bits) / self.width
+    }
+
+    // The Gray code of a value's part.
+    pub fn code_of(self, value: i64) -> u64
+        requires { HoldsValue (direction_of self) value }
+        ensures { result ≡ gray (part_of (direction_of self) value) }
+    {
+        gray_of(self.part_of(value))
     }
 }
 
-// The directions, the class last, with no bits: the least value and the width of each.
-#[derive(Clone, Copy)]
-pub struct Spans {
-    pub least: [i64; LoopNest::MAX_DEPTH],
-    pub width: [u64; LoopNest::MAX_DEPTH],
+// The direction behind k, going round.
+pub fn next_turn(k: usize) -> usize
+    requires { k < max_depth }
+    ensures { result ≡ next_turn max_depth k }
+{
+    (k + 1) % LoopNest::MAX_DEPTH
 }
 
 // The column of direction j: a row begins with the class, which is the last direction.
@@ -51,22 +79,38 @@ pub fn column_of(j: usize) -> usize
     next_turn(j)
 }
 
-// The directions of so many rows.
-pub fn spans_in(rows: &[i64], count: usize) -> Spans
-    requires { (1 ≤ count) × (count ≤ max_iterations) × RowsInSpan rows.now count }
-    ensures { held result.least result.width no_bits ≡ directions_in rows.now count }
+// The direction whose values stand in column j, with no bits.
+fn direction_in(rows: &[Row], j: usize) -> Direction
+    requires { (1 ≤ length rows.now) × (j < max_depth) × RowsInSpan rows.now (length rows.now) }
+    ensures { direction_of result ≡ span_of (column rows.now j (length rows.now)) }
 {
-    let mut least = [0i64; LoopNest::MAX_DEPTH];
-    let mut width = [0u64; LoopNest::MAX_DEPTH];
-    for j in 0..LoopNest::MAX_DEPTH {
-        let at = column_of(j);
-        let reach = reach_in(rows, at, count);
-        let low = reach.least;
-        least[j] = low;
-        width[j] = reach.width;
+    let mut least = rows[0][j];
+    let mut greatest = least;
+    for row in &rows[1..] {
+        least = integers::lesser(least, row[j]);
+        greatest = integers::larger(greatest, row[j]);
     }
-    Spans {
-        least: least,
-        width: width,
+    Direction {
+        least,
+        width: height(least, greatest) + 1,
+        bits: 0,
     }
+}
+
+// The directions, the class last, with no bits.
+pub fn directions_in(rows: &[Row]) -> [Direction; LoopNest::MAX_DEPTH]
+    requires { (1 ≤ length rows.now) × RowsInSpan rows.now (length rows.now) }
+    ensures { held result ≡ directions_in rows.now (length rows.now) }
+{
+    let none = Direction {
+        least: 0,
+        width: 0,
+        bits: 0,
+    };
+    let mut directions = [none; LoopNest::MAX_DEPTH];
+    for (j, direction) in directions.iter_mut().enumerate() {
+        let column = column_of(j);
+        *direction = direction_in(rows, column);
+    }
+    directions
 }

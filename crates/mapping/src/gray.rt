@@ -11,6 +11,7 @@ pub fn gray_of(p: u64) -> u64
     requires { p < 2 ^ max_cube }
     ensures { (result ≡ code_for gray_codes p) × (result ≡ gray p) }
 {
+    // Kept: written-out cases, as document 02, U5, asks for them (`code_for gray_codes`).
     match p {
         0 => 0,
         1 => 1,

@@ -6,7 +6,6 @@ mod counts;
 mod dealing;
 mod directions;
 mod gray;
-mod parts;
 mod processors;
 
 pub use crate::counts::{message_count, processor_count};

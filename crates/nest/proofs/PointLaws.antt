@@ -15,9 +15,10 @@ use lib.ListN.{length, get_or, get_or-eq_default}
 use Rattle.integers.proofs.Lists.{split, below_or_not, length-tab, get_or-tab, any_at, place_none, place-below, place-passes}
 use Rattle.integers.specs.Vector.{Vector, eq_v}
 use Rattle.integers.proofs.Vector.{eq_v_true, eq_v_refl}
+use Rattle.std.specs.Prelude.{Option, Some, None, unwrap_or}
 use Rattle.nest.specs.declared.LoopNest.{LoopNest}
 use Rattle.nest.specs.Nest.{part, padded, depth_of, count_of, limit_at, limits_of, max_depth, max_limit, max_iterations}
-use Rattle.nest.specs.Points.{points_of, point, rank, is_point, source, Before}
+use Rattle.nest.specs.Points.{points_of, point, rank, is_point, place_of, source, Before}
 use Rattle.nest.specs.Sources.{source_rank}
 use Rattle.nest.specs.Refusals.{refusal, holds, crossed, too_many_points, dependence}
 use Rattle.nest.proofs.Accepted.{not_crossed, some-product}
@@ -93,6 +94,33 @@ pub rank-missing : (s : LoopNest) (j : Vector) → is_point (points_of s) j ≡ 
 unfolding rank is_point
 rank-missing s j f = place_none (eq_v j) (points_of s) f
 
+-- so its place is its rank, and any other vector has none
+pub place-there : (s : LoopNest) (j : Vector) → is_point (points_of s) j ≡ true → place_of (points_of s) j ≡ Some (rank (points_of s) j)
+unfolding place_of
+place-there s j t = rw (place_of, t) refl
+
+pub place-missing : (s : LoopNest) (j : Vector) → is_point (points_of s) j ≡ false → place_of (points_of s) j ≡ None
+unfolding place_of
+place-missing s j f = rw (place_of, f) refl
+
+-- with the number of iterations for none, it is the rank
+pub place-rank : (s : LoopNest) (j : Vector) → unwrap_or (place_of (points_of s) j) (length (points_of s)) ≡ rank (points_of s) j
+place-rank s j =
+    split (is_point (points_of s) j)
+    (λ t. ap (λ (o : Option ℕ). unwrap_or o (length (points_of s))) (place-there s j t))
+    (λ f. ap (λ (o : Option ℕ). unwrap_or o (length (points_of s))) (place-missing s j f) ∙ sym (rank-missing s j f))
+
+-- a place that is had is that of an iteration, and is the vector's rank
+pub placed : (s : LoopNest) (j : Vector) (r : ℕ) → place_of (points_of s) j ≡ Some r → (is_point (points_of s) j ≡ true) × (r < length (points_of s)) × (r ≡ rank (points_of s) j)
+placed s j r e =
+    split (is_point (points_of s) j)
+    (λ t. let q : rank (points_of s) j ≡ r = let h = place-there s j t in cc in (t, rw q at (rank-there s j t).0, sym q))
+    (λ f. let h = place-missing s j f in cc)
+
+-- where there is none the vector is no point
+pub unplaced : (s : LoopNest) (j : Vector) → place_of (points_of s) j ≡ None → is_point (points_of s) j ≡ false
+unplaced s j e = split (is_point (points_of s) j) (λ t. let h = place-there s j t in cc) (λ f. f)
+
 -- points with one rank are equal
 pub same_point : (s : LoopNest) (i j : Vector) → is_point (points_of s) i ≡ true → is_point (points_of s) j ≡ true → rank (points_of s) i ≡ rank (points_of s) j → i ≡ j
 same_point s i j ti tj e = sym (rank-there s i ti).1 ∙ ap (point s) e ∙ (rank-there s j tj).1
@@ -126,6 +154,14 @@ module _ (s : LoopNest) (k i j : ℕ) (e : j ≡ rank (points_of s) (source (poi
   rank-none l =
       split (is_point (points_of s) (source_of s k i)) (λ t. absurd (omega (arith, e, (rank-there s (source_of s k i) t).0)))
       (λ f. source-missing s k i f)
+
+-- the place of the source's vector: it is the source, and where there is none there is no source
+module _ (s : LoopNest) (k i : ℕ) where
+  pub place_found : (j : ℕ) → place_of (points_of s) (source (point s k) (dependence s i)) ≡ Some j → source_rank s k i ≡ some j
+  place_found j e = let p = placed s (source_of s k i) j e in source-there s k i p.0 ∙ ap some (sym p.2)
+
+  pub place-none : place_of (points_of s) (source (point s k) (dependence s i)) ≡ None → source_rank s k i ≡ none
+  place-none e = source-missing s k i (unplaced s (source_of s k i) e)
 
 -- the source of iteration k is iteration j exactly if its point is point k less the dependence
 pub source_iff : (s : LoopNest) (k i j : ℕ) → (source_rank s k i ≡ some j) ↔ ((j < length (points_of s)) × (point s j ≡ source (point s k) (dependence s i)))

@@ -1,6 +1,6 @@
 -- How the rank of a source is worked out from that of its iteration, loop by loop from the innermost outward. Assumes nothing.
-use mathlib.Core.Path.{◌≡◌, refl, sym, ap, subst, ◌∙◌}
-use mathlib.Core.List.{List, [], ◌∷◌, ◌++◌}
+use mathlib.Core.Path.{◌≡◌, refl, sym, ap, ap₂, subst, ◌∙◌}
+use mathlib.Core.List.{[], ◌∷◌, ◌++◌}
 use Prim.Native.Nat.{ℕ, zero, suc, ◌+◌, ◌*◌, ◌/◌, ◌%◌, ◌<◌, ◌≤◌}
 use native.Mathlib.Nat as NatL
 use native.Mathlib.Numerals.{add-one}
@@ -9,11 +9,12 @@ use lib.IntN.{ℤ, pos, ◌+ℤ◌, ◌-ℤ◌}
 use lib.ListN.{length, get_or, take, drop}
 use lib.Seq.{take_all, take-append_seam, get_or-take, get_or_at}
 use Rattle.integers.specs.Lists.{tab}
-use Rattle.integers.proofs.Lists.{length-tab, tab-drop, tab_end}
+use Rattle.integers.proofs.Lists.{length-tab, tab-drop, tab_end, tab-same}
 use Rattle.integers.specs.Vector.{Vector}
-use Rattle.nest.specs.Nest.{Limit, to_ℕ, part}
-use Rattle.nest.specs.Points.{extent, points, point_count, rank, source, Inside}
-use Rattle.nest.proofs.Order.{point-inside, rank-inside}
+use Rattle.std.specs.Prelude.{Some}
+use Rattle.nest.specs.Nest.{Limit, to_ℕ}
+use Rattle.nest.specs.Points.{extent, points, point_count, rank, place_of, source, Inside}
+use Rattle.nest.proofs.Order.{point-inside, rank-inside, place-inside}
 use Rattle.nest.proofs.Padding.{part-whole}
 use Rattle.nest.proofs.Ranks.{Within, rank-cons, outer-count, rank_split}
 use Rattle.nest.proofs.Sources.{inside-length, source-tab}
@@ -124,10 +125,14 @@ behind-below f g n k stride at u h =
     (omega arith, omega arith)
 
 -- the source of a point, index by index
-pub source-listed : (xs : List ℤ) (from n : ℕ) (J : Vector) → length J ≡ n → tab (λ i. get_or J i (pos 0) -ℤ get_or xs (from + i) (pos 0)) n ≡ source J (part xs from n)
-source-listed xs from n J l = sym (source-tab J xs from n) ∙ ap (λ (v : Vector). source v (part xs from n)) (part-whole n J l)
+pub source-listed : (d : Vector) (n : ℕ) (J : Vector) → length J ≡ n → length d ≡ n → tab (λ i. get_or J i (pos 0) -ℤ get_or d i (pos 0)) n ≡ source J d
+source-listed d n J l m =
+    tab-same (λ i. get_or J i (pos 0) -ℤ get_or d i (pos 0)) (λ i. get_or J i (pos 0) -ℤ get_or d (0 + i) (pos 0)) n (λ i h. ap (λ k. get_or J i (pos 0) -ℤ get_or d k (pos 0)) (sym (NatL.zero-add i)))
+    ∙ sym (source-tab J d 0 n) ∙ ap₂ source (part-whole n J l) (part-whole n d m)
 
--- all loops: the rank of the source
-pub behind_end : (f : ℕ → Limit) (xs : List ℤ) (from n : ℕ) (J : Vector) (stride at : ℕ) → length J ≡ n
-    → Behind f (λ i. get_or J i (pos 0) -ℤ get_or xs (from + i) (pos 0)) n 0 stride at → at ≡ rank (points (tab f n)) (source J (part xs from n))
-behind_end f xs from n J stride at l u = u.at_is ∙ ap (rank (points (tab f n))) (source-listed xs from n J l)
+-- all loops: the place of the source
+pub behind_place : (f : ℕ → Limit) (d : Vector) (n : ℕ) (J : Vector) (stride at : ℕ) → length J ≡ n → length d ≡ n
+    → Behind f (λ i. get_or J i (pos 0) -ℤ get_or d i (pos 0)) n 0 stride at → Some at ≡ place_of (points (tab f n)) (source J d)
+behind_place f d n J stride at l m u =
+    ap Some u.at_is ∙ sym (place-inside (tab f n) (tab (λ i. get_or J i (pos 0) -ℤ get_or d i (pos 0)) n) u.inside)
+    ∙ ap (place_of (points (tab f n))) (source-listed d n J l m)

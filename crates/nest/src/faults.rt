@@ -1,9 +1,12 @@
 // Whether a part of a nest is at fault: a number out of span, limits crossed, a dependence
 // backward, equal to another or against the time vector.
-ghost use Rattle.std.specs.Prelude.{◌≡◌, false, ℕ, ◌+◌, ◌*◌, ◌<◌, ◌≤◌, pos, nat_abs, length, get_or};
-ghost use Rattle.integers.specs.Lists.{any, repeats, tab};
+ghost use Rattle.std.specs.Prelude.{◌≡◌, false, ℕ, ◌*◌, ◌/◌, ◌<◌, ◌≤◌, pos, nat_abs, [], length, map, take, get_or};
+ghost use Rattle.std.specs.Prelude.{EachIndex, slice_index_or};
+ghost use Rattle.std.specs.List.{list_any, zip};
+ghost use Rattle.std.specs.Simd.{first_chunks};
+ghost use Rattle.integers.specs.Lists.{any, repeats};
 ghost use Rattle.integers.specs.Vector.{dots, eq_v};
-ghost use Rattle.nest.specs.Nest.{part, limit_at, dependence_at, max_depth, max_limit, max_component};
+ghost use Rattle.nest.specs.Nest.{max_depth, max_limit, max_component};
 ghost use Rattle.nest.specs.Refusals.{outside, crossed, out_of_span, backward, against};
 
 use crate::LoopNest;
@@ -12,169 +15,145 @@ use crate::LoopNest;
 pub fn is_outside(low: i64, high: i64, x: i64) -> bool
     ensures { result ≡ outside low high x }
 {
-    if x < low {
-        return true;
-    }
-    high < x
+    !(low..=high).contains(&x)
 }
 
 // Whether a loop's limits are crossed or out of span.
 fn is_crossed(lower: i64, upper: i64) -> bool
     ensures { result ≡ crossed (record { lower = lower; upper = upper }) }
 {
-    if is_outside(-LoopNest::MAX_LIMIT, LoopNest::MAX_LIMIT, lower) {
-        return true;
-    }
-    if is_outside(-LoopNest::MAX_LIMIT, LoopNest::MAX_LIMIT, upper) {
-        return true;
-    }
-    upper < lower
+    is_outside(-LoopNest::MAX_LIMIT, LoopNest::MAX_LIMIT, lower)
+        || is_outside(-LoopNest::MAX_LIMIT, LoopNest::MAX_LIMIT, upper)
+        || upper < lower
 }
 
-// Whether one of so many places of an array, from place `from` on, is not from low to high.
-pub fn any_outside(xs: &[i64], from: usize, count: usize, low: i64, high: i64) -> bool
-    requires { from + count ≤ length xs.now }
-    ensures { result ≡ any (outside low high) (part xs.now from count) }
+// Whether one of some numbers is not from low to high.
+pub fn any_outside(xs: &[i64], low: i64, high: i64) -> bool
+    ensures { result ≡ list_any (outside low high) xs.now }
 {
-    for k in 0..count {
-        if is_outside(low, high, xs[from + k]) {
-            return true;
-        }
-    }
-    false
+    xs.iter().any(|x| is_outside(low, high, *x))
 }
 
-// Whether the limits of one of the n outermost loops are crossed or out of span.
-pub fn any_crossed(lower: &[i64], upper: &[i64], n: usize) -> bool
-    requires { (n ≤ length lower.now) × (n ≤ length upper.now) }
-    ensures { result ≡ any crossed (tab (limit_at lower.now upper.now) n) }
+// Whether the limits of one of some loops are crossed or out of span.
+pub fn any_crossed(lower: &[i64], upper: &[i64]) -> bool
+    ensures { result ≡ list_any (λ l. crossed (record { lower = l.0; upper = l.1 })) (zip lower.now upper.now) }
 {
-    for k in 0..n {
-        if is_crossed(lower[k], upper[k]) {
-            return true;
-        }
-    }
-    false
+    lower
+        .iter()
+        .zip(upper)
+        .any(|(low, high)| is_crossed(*low, *high))
 }
 
-// Whether dependence i, of n components, is zero or has a negative component
-// before any positive one.
-fn is_backward(dependences: &[i64], i: usize, n: usize) -> bool
-    requires { i * max_depth + n ≤ length dependences.now }
-    ensures { result ≡ backward (dependence_at dependences.now n i) }
+// Whether a dependence is zero or has a negative component before any positive one.
+fn is_backward(dependence: &[i64]) -> bool
+    ensures { result ≡ backward dependence.now }
 {
-    for k in 0..n {
-        let d = dependences[i * LoopNest::MAX_DEPTH + k];
-        if d < 0 {
-            return true;
-        }
-        if 0 < d {
-            return false;
+    for component in dependence {
+        if *component != 0 {
+            return *component < 0;
         }
     }
     true
 }
 
-// Whether a component of one of the m dependences is out of span.
-pub fn any_dependence_outside(dependences: &[i64], n: usize, m: usize) -> bool
-    requires { (n ≤ max_depth) × (m * max_depth ≤ length dependences.now) }
-    ensures { result ≡ any out_of_span (tab (dependence_at dependences.now n) m) }
+// The rows of the first m dependences, each with a place for each component.
+pub fn rows_of(dependences: &[i64], m: usize) -> &[[i64; LoopNest::MAX_DEPTH]]
+    requires { m * max_depth ≤ length dependences.now }
+    ensures { result.now ≡ take m (first_chunks max_depth (length dependences.now / max_depth) dependences.now) }
 {
-    for i in 0..m {
-        if any_outside(
-            dependences,
-            i * LoopNest::MAX_DEPTH,
-            n,
-            -LoopNest::MAX_COMPONENT,
-            LoopNest::MAX_COMPONENT,
-        ) {
+    let (rows, _) = dependences.as_chunks::<{ LoopNest::MAX_DEPTH }>();
+    &rows[..m]
+}
+
+// Whether a component of a vector is out of span.
+pub fn is_out_of_span(vector: &[i64]) -> bool
+    ensures { result ≡ out_of_span vector.now }
+{
+    any_outside(vector, -LoopNest::MAX_COMPONENT, LoopNest::MAX_COMPONENT)
+}
+
+// Whether one of some dependences of n components, each in a row of its own, has one out of span.
+pub fn any_out_of_span(rows: &[[i64; LoopNest::MAX_DEPTH]], n: usize) -> bool
+    requires { n ≤ max_depth }
+    ensures { result ≡ list_any (λ row. out_of_span (take n row)) rows.now }
+{
+    rows.iter().any(|row| is_out_of_span(&row[..n]))
+}
+
+// Whether one of them is backward.
+pub fn any_backward(rows: &[[i64; LoopNest::MAX_DEPTH]], n: usize) -> bool
+    requires { n ≤ max_depth }
+    ensures { result ≡ list_any (λ row. backward (take n row)) rows.now }
+{
+    rows.iter().any(|row| is_backward(&row[..n]))
+}
+
+// Whether two dependences are equal.
+fn are_equal(a: &[i64], b: &[i64]) -> bool
+    ensures { result ≡ eq_v a.now b.now }
+{
+    a == b
+}
+
+// Whether a dependence equals one of others.
+fn equals_one_of(dependence: &[i64], rows: &[[i64; LoopNest::MAX_DEPTH]], n: usize) -> bool
+    requires { n ≤ max_depth }
+    ensures { result ≡ list_any (λ row. eq_v dependence.now (take n row)) rows.now }
+{
+    rows.iter().any(|row| are_equal(dependence, &row[..n]))
+}
+
+// Whether two of them are equal.
+pub fn any_equal(rows: &[[i64; LoopNest::MAX_DEPTH]], n: usize) -> bool
+    requires { n ≤ max_depth }
+    ensures { result ≡ repeats eq_v (map (take n) rows.now) }
+{
+    let mut rest = rows;
+    while let Some((first, others)) = rest.split_first() {
+        if equals_one_of(&first[..n], others, n) {
             return true;
         }
+        rest = others;
     }
     false
 }
 
-// Whether one of the m dependences is backward.
-pub fn any_backward(dependences: &[i64], n: usize, m: usize) -> bool
-    requires { (n ≤ max_depth) × (m * max_depth ≤ length dependences.now) }
-    ensures { result ≡ any backward (tab (dependence_at dependences.now n) m) }
-{
-    for i in 0..m {
-        if is_backward(dependences, i, n) {
-            return true;
-        }
-    }
-    false
-}
-
-// Whether dependences i and j, of n components, are equal.
-fn are_equal(dependences: &[i64], i: usize, j: usize, n: usize) -> bool
-    requires { (i * max_depth + n ≤ length dependences.now) × (j * max_depth + n ≤ length dependences.now) }
-    ensures { result ≡ eq_v (dependence_at dependences.now n i)
-        (dependence_at dependences.now n j) }
-{
-    for k in 0..n {
-        let a = dependences[i * LoopNest::MAX_DEPTH + k];
-        let b = dependences[j * LoopNest::MAX_DEPTH + k];
-        if a != b {
-            return false;
-        }
-    }
-    true
-}
-
-// Whether dependence j equals one listed before it.
-fn equals_earlier(dependences: &[i64], j: usize, n: usize) -> bool
-    requires { (n ≤ max_depth) × (j * max_depth + n ≤ length dependences.now) }
-    ensures { result ≡ any (λ d. eq_v d (dependence_at dependences.now n j))
-        (tab (dependence_at dependences.now n) j) }
-{
-    for i in 0..j {
-        if are_equal(dependences, i, j, n) {
-            return true;
-        }
-    }
-    false
-}
-
-// Whether two of the m dependences are equal.
-pub fn any_equal(dependences: &[i64], n: usize, m: usize) -> bool
-    requires { (n ≤ max_depth) × (m * max_depth ≤ length dependences.now) }
-    ensures { result ≡ repeats eq_v (tab (dependence_at dependences.now n) m) }
-{
-    for j in 0..m {
-        if equals_earlier(dependences, j, n) {
-            return true;
-        }
-    }
-    false
-}
-
-// The inner product of n places of the time vector with n places of another array, from place
-// `from` on, which are in the span of an index.
-pub fn inner_product(time: &[i64], xs: &[i64], from: usize, n: usize) -> i64
-    requires n_le_max_depth { (n ≤ max_depth) × (n ≤ length time.now) × (from + n ≤ length xs.now) }
-    requires by_index { (k : ℕ) → k < n → (nat_abs (get_or time.now k (pos 0)) ≤ max_component)
-        × (nat_abs (get_or xs.now (from + k) (pos 0)) ≤ max_limit) }
-    ensures { result ≡ dots (part time.now 0 n) (part xs.now from n) }
+// The inner product of a time vector and as many numbers, which are in the span of an index.
+pub fn inner_product(time: &[i64], xs: &[i64]) -> i64
+    requires lengths { (length time.now ≡ length xs.now) × (length xs.now ≤ max_depth) }
+    requires by_index { (k : ℕ) → k < length xs.now → (nat_abs (get_or time.now k (pos 0)) ≤ max_component)
+        × (nat_abs (get_or xs.now k (pos 0)) ≤ max_limit) }
+    ensures { result ≡ dots time.now xs.now }
 {
     let mut sum: i64 = 0;
-    for k in 0..n {
-        sum = sum + time[k] * xs[from + k];
+    for (p, x) in time.iter().zip(xs) {
+        sum += p * x;
     }
     sum
 }
 
-// Whether P·d is below 1 for one of the m dependences.
-pub fn any_against(time: &[i64], dependences: &[i64], n: usize, m: usize) -> bool
-    requires n_le_max_depth { (n ≤ max_depth) × (n ≤ length time.now) × (m * max_depth ≤ length dependences.now) }
-    requires n_value { (out_of_span (part time.now 0 n) ≡ false)
-        × (any out_of_span (tab (dependence_at dependences.now n) m) ≡ false) }
-    ensures { result ≡ any (against (part time.now 0 n))
-        (tab (dependence_at dependences.now n) m) }
+// Whether P·d is below 1, of a time vector and as many components of a row, which are in span.
+fn is_against(time: &[i64], row: &[i64; LoopNest::MAX_DEPTH]) -> bool
+    requires lengths { length time.now ≤ max_depth }
+    requires time_span { out_of_span time.now ≡ false }
+    requires row_span { out_of_span (take (length time.now) row.now) ≡ false }
+    ensures { result ≡ against time.now (take (length time.now) row.now) }
 {
-    for i in 0..m {
-        if inner_product(time, dependences, i * LoopNest::MAX_DEPTH, n) < 1 {
+    inner_product(time, &row[..time.len()]) < 1
+}
+
+// Whether P·d is below 1 for one of them, where all are in span.
+pub fn any_against(time: &[i64], rows: &[[i64; LoopNest::MAX_DEPTH]]) -> bool
+    requires lengths { length time.now ≤ max_depth }
+    requires time_span { out_of_span time.now ≡ false }
+    requires row_spans { EachIndex rows.now
+        (λ i. out_of_span (take (length time.now) (slice_index_or rows.now i [])) ≡ false) }
+    ensures { result ≡ list_any (λ row. against time.now (take (length time.now) row)) rows.now }
+{
+    // Kept: a loop, since the proof that `any` may call a closure that asks something of each row
+    // didn't close.
+    for row in rows {
+        if is_against(time, row) {
             return true;
         }
     }

@@ -2,7 +2,9 @@
 // 13, and its index points.
 #![tactic(auto)]
 
+mod accepted_nest;
 mod faults;
+mod lent;
 mod points;
 mod refusals;
 mod source;
@@ -11,15 +13,16 @@ ghost use Rattle.std.specs.Prelude.{◌≡◌, pos};
 ghost use Rattle.nest.specs.Nest.{empty_nest, with_shape, with_limits, with_time, with_dependence, with_boundary};
 ghost use Rattle.nest.specs.Nest.{with_every_boundary, with_weight, to_ℕ, max_depth, max_dependences, max_cube};
 ghost use Rattle.nest.specs.Nest.{max_limit, max_iterations, max_component, max_boundary, max_weight};
+ghost use Rattle.nest.specs.NestParts.{nest_of};
 
+pub use crate::accepted_nest::AcceptedNest;
 pub use crate::faults::{inner_product, is_outside};
-pub use crate::points::{distance, extent_of, point_of, rank_of};
+pub use crate::lent::NestParts;
+pub use crate::points::{distance, extent_of};
 pub use crate::refusals::{
-    AGAINST_TIME, BACKWARD_DEPENDENCE, BAD_COUNT, BAD_CUBE, BAD_DEPENDENCE, BAD_DEPTH, BAD_LIMITS,
-    BAD_TIME, BAD_WEIGHT, EQUAL_DEPENDENCES, SHORT_BUFFER, TOO_MANY_POINTS, check, check_header,
-    check_room, inspect, inspect_parts,
+    Refusal, accept, check, check_header, check_parts, check_room, inspect, inspect_parts,
 };
-pub use crate::source::{source_at, source_of, source_rank};
+pub use crate::source::{dependence_at, source_rank};
 
 // A loop nest. Every field may hold any number; `check` says whether the nest is accepted. Of each
 // array the first `depth` or `count` places are part of the nest, and the others are ignored.
@@ -81,6 +84,23 @@ impl LoopNest {
             dependences: [0; LoopNest::MAX_DEPTH * LoopNest::MAX_DEPENDENCES],
             boundaries: [0; LoopNest::MAX_DEPENDENCES],
             weights: [0; LoopNest::MAX_DEPENDENCES],
+        }
+    }
+
+    // The nest in its parts.
+    pub fn parts<'a>(&'a self) -> NestParts<'a>
+        ensures { nest_of result ≡ self.now }
+    {
+        NestParts {
+            depth: self.depth,
+            count: self.count,
+            cube: self.cube,
+            lower: &self.lower,
+            upper: &self.upper,
+            time: &self.time,
+            dependences: &self.dependences,
+            boundaries: &self.boundaries,
+            weights: &self.weights,
         }
     }
 
@@ -169,13 +189,5 @@ impl LoopNest {
 pub fn to_size(x: i64) -> usize
     ensures { result ≡ to_ℕ x }
 {
-    if x < 0 { 0 } else { x as usize }
-}
-
-// What is known of a nest: the number of its first refusal, 2 to 13, or 0 with the
-// number of its iterations.
-#[derive(Clone, Copy)]
-pub struct Inspection {
-    pub refusal: u8,
-    pub iterations: usize,
+    usize::try_from(x).unwrap_or(0)
 }

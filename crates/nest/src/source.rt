@@ -1,98 +1,72 @@
 // The source of an iteration along a dependence: the point, and its rank.
 ghost use Rattle.std.specs.Prelude.{◌≡◌, true, false, ℕ, ◌+◌, ◌*◌, ◌<◌, ◌≤◌, pos, nat_abs, [], length, get_or};
-ghost use Rattle.integers.specs.Lists.{any, tab};
-ghost use Rattle.nest.specs.Nest.{padded, part, depth_of, count_of, limit_at, dependence_at, max_depth, max_limit};
+ghost use Rattle.integers.specs.Lists.{any};
+ghost use Rattle.nest.specs.Nest.{padded, part, depth_of, count_of, limits_in, dependence_at, max_depth, max_limit};
 ghost use Rattle.nest.specs.Nest.{max_iterations, max_component};
-ghost use Rattle.nest.specs.Points.{points, points_of, point_count, rank, is_point, source};
+ghost use Rattle.nest.specs.Points.{points, points_of, point_count, place_of, is_point, source};
 ghost use Rattle.nest.specs.Refusals.{crossed, refusal, dependence};
 
+use crate::LoopNest;
 use crate::faults::is_outside;
-use crate::points::{distance, extent_of, index_at, rank_of};
-use crate::{LoopNest, to_size};
+use crate::points::{distance, extent_of, index_at};
 
-// A point less dependence i, of n components, with 0 in the places behind the
-// depth; both are in span.
-fn difference(
-    point: [i64; LoopNest::MAX_DEPTH],
-    dependences: &[i64],
-    i: usize,
-    n: usize,
-) -> [i64; LoopNest::MAX_DEPTH]
-    requires n_le_max_depth { (n ≤ max_depth) × (i * max_depth + n ≤ length dependences.now) }
-    requires by_index { (k : ℕ) → k < n → (nat_abs (get_or point k (pos 0)) ≤ max_limit)
-        × (nat_abs (get_or dependences.now (i * max_depth + k) (pos 0)) ≤ max_component) }
-    ensures { result ≡ padded max_depth (source (part point 0 n) (dependence_at dependences.now n i)) }
+// The components of dependence i, of n components, in the array of the dependences.
+pub fn dependence_at(dependences: &[i64], n: usize, i: usize) -> &[i64]
+    requires { i * max_depth + n ≤ length dependences.now }
+    ensures { result.now ≡ dependence_at dependences.now n i }
+{
+    let from = i * LoopNest::MAX_DEPTH;
+    &dependences[from..from + n]
+}
+
+// A point less a dependence, with 0 in the places behind the depth; both are in span.
+pub fn difference(point: &[i64], dependence: &[i64]) -> [i64; LoopNest::MAX_DEPTH]
+    requires lengths { (length point.now ≤ max_depth) × (length dependence.now ≡ length point.now) }
+    requires by_index { (k : ℕ) → k < length point.now → (nat_abs (get_or point.now k (pos 0)) ≤ max_limit)
+        × (nat_abs (get_or dependence.now k (pos 0)) ≤ max_component) }
+    ensures { result ≡ padded max_depth (source point.now dependence.now) }
 {
     let mut source = [0i64; LoopNest::MAX_DEPTH];
-    for k in 0..n {
-        source[k] = point[k] - dependences[i * LoopNest::MAX_DEPTH + k];
+    for (k, (index, component)) in point.iter().zip(dependence).enumerate() {
+        source[k] = index - component;
     }
     source
 }
 
-// The source of an index point of an accepted nest along dependence i, with 0 in the
-// places behind the depth.
-pub fn source_of(
-    s: LoopNest,
-    point: [i64; LoopNest::MAX_DEPTH],
-    i: usize,
-) -> [i64; LoopNest::MAX_DEPTH]
-    requires { (refusal s ≡ 0) × (is_point (points_of s) (part point 0 (depth_of s)) ≡ true) × (i < count_of s) }
-    ensures { result ≡ padded max_depth (source (part point 0 (depth_of s)) (dependence s i)) }
-{
-    let n = to_size(s.depth);
-    difference(point, &s.dependences, i, n)
-}
-
-// The rank of the source of an index point along dependence i; the number of iterations where
-// the source is none of them.
-pub fn source_at(s: LoopNest, point: [i64; LoopNest::MAX_DEPTH], i: usize) -> usize
-    requires { (refusal s ≡ 0) × (is_point (points_of s) (part point 0 (depth_of s)) ≡ true) × (i < count_of s) }
-    ensures { result ≡ rank (points_of s) (source (part point 0 (depth_of s)) (dependence s i)) }
-{
-    let source = source_of(s, point, i);
-    rank_of(s, source)
-}
-
-// The rank of the source of an iteration along dependence i, of n loops that have so many index
-// points in all; their number where the source is none of them. From the innermost loop outward,
-// each index is what the extent of its loop leaves of the iteration's rank.
-pub fn source_rank<'a>(
-    lower: &'a [i64],
-    upper: &'a [i64],
-    dependences: &'a [i64],
-    n: usize,
-    total: usize,
+// The rank of the source of an iteration along a dependence, of some loops; none where the source
+// is none of their index points. From the innermost loop outward, each index is what the extent of
+// its loop leaves of the iteration's rank.
+pub fn source_rank(
+    lower: &[i64],
+    upper: &[i64],
+    dependence: &[i64],
     iteration: usize,
-    i: usize,
-) -> usize
-    requires n_le_max_depth { (n ≤ max_depth) × (n ≤ length lower.now) × (n ≤ length upper.now)
-        × (i * max_depth + n ≤ length dependences.now) }
-    requires n_value { (any crossed (tab (limit_at lower.now upper.now) n) ≡ false)
-        × (total ≡ point_count (tab (limit_at lower.now upper.now) n)) × (total ≤ max_iterations)
-        × (iteration < total) }
-    requires by_index { (k : ℕ) → k < n → nat_abs (get_or dependences.now (i * max_depth + k) (pos 0)) ≤ max_component }
-    ensures { result ≡ rank (points (tab (limit_at lower.now upper.now) n))
-        (source (get_or (points (tab (limit_at lower.now upper.now) n)) iteration [])
-        (dependence_at dependences.now n i)) }
+) -> Option<usize>
+    requires lengths { (length lower.now ≤ max_depth) × (length upper.now ≡ length lower.now)
+        × (length dependence.now ≡ length lower.now) }
+    requires limits { (any crossed (limits_in lower.now upper.now) ≡ false)
+        × (point_count (limits_in lower.now upper.now) ≤ max_iterations)
+        × (iteration < point_count (limits_in lower.now upper.now)) }
+    requires by_index { (k : ℕ) → k < length dependence.now
+        → nat_abs (get_or dependence.now k (pos 0)) ≤ max_component }
+    ensures { result ≡ place_of (points (limits_in lower.now upper.now))
+        (source (get_or (points (limits_in lower.now upper.now)) iteration []) dependence.now) }
 {
     let mut rest = iteration as u64;
     let mut stride: u64 = 1;
     let mut at: u64 = 0;
-    let mut k = n;
-    while 0 < k {
-        k -= 1;
+    // Kept: k goes down through three arrays, and a `rev` on each behind a `zip` is no plainer.
+    for k in (0..lower.len()).rev() {
         let low = lower[k];
         let high = upper[k];
         let extent = extent_of(low, high);
-        let index = index_at(low, rest % extent) - dependences[i * LoopNest::MAX_DEPTH + k];
-        let missing = is_outside(low, high, index);
-        if missing {
-            return total;
+        let index = index_at(low, rest % extent) - dependence[k];
+        if is_outside(low, high, index) {
+            return None;
         }
-        at = at + distance(low, index) * stride;
-        stride = stride * extent;
-        rest = rest / extent;
+        at += distance(low, index) * stride;
+        stride *= extent;
+        rest /= extent;
     }
-    at as usize
+    Some(at as usize)
 }

@@ -1,7 +1,7 @@
 -- The lines behind line 1, read one after the other.
 -- Assumes nothing.
 use mathlib.Core.Path.{◌≡◌, refl, sym, ap, ◌∙◌}
-use mathlib.Core.Bool.{Bool, true, false}
+use mathlib.Core.Bool.{true, false}
 use mathlib.Core.List.{List, [], ◌∷◌, ◌++◌, map, map-map}
 use Prim.Native.Nat.{ℕ, zero, suc, ◌+◌, ◌*◌, ◌-◌, ◌≤◌, ◌<◌}
 use native.Mathlib.Numerals.{add-one}
@@ -14,14 +14,12 @@ use lib.ListN.{get_or-eq_default}
 use lib.Seq.{drop-cons, drop-drop, drop-length, get_or-drop, get_or-take, take-suc, take_all, length-take-le}
 use Rattle.integers.proofs.Lists.{split}
 use Rattle.nest.specs.declared.LoopNest.{LoopNest}
-use Rattle.nest.specs.Nest.{Limit, padded, nest_of, empty_nest, max_depth, max_dependences}
-use Rattle.nest_text.specs.declared.reader.Line.{Line}
-use Rattle.nest_text.specs.declared.reader.Body.{Body}
+use Rattle.nest.specs.Nest.{Limit, padded, nest_of, max_depth, max_dependences}
+use Rattle.std.proofs.Common.{Some, None}
 use Rattle.nest_text.specs.Fields.{Bytes, columns}
 use Rattle.nest_text.specs.Text.{at, is_line, numbers_of, behind, are_lines}
 use Rattle.nest_text.specs.Text.{line_numbers, widths, shapes, fits, first_fitting, nest_from}
 use Rattle.nest_text.specs.Reader.{max_fields, line_of, last_width, with_line, filled, body_read}
-use Rattle.nest_text.proofs.FieldLaws.{rest_part}
 use Rattle.nest_text.proofs.LineLaws.{numbers-length}
 use Rattle.nest_text.proofs.LastLine.{line-inside, shapes-one, shapes-first}
 use Rattle.nest_text.proofs.RowLaws.{width-vector, width-last, limits-line, time-line, dependence-line}
@@ -30,30 +28,31 @@ use Rattle.nest_text.proofs.FillLaws.{same-nest, filled-limit, filled-time, fill
 
 -- ---- what an answer of the line reader says
 module _ (k : ℕ) (bs : Bytes) where
-  -- the flag by the test
-  line_choice : (b : Bool) → is_line k bs ≡ b → (line_of k bs).ok ≡ b
+  -- that of a line in form
+  in_form : is_line k bs ≡ true → line_of k bs ≡ Some (padded max_fields (numbers_of k bs))
   unfolding line_of
-  line_choice true e = rw (e, line_of) refl
-  line_choice false e = rw (e, line_of) refl
+  in_form e = rw (e, line_of) refl
 
-  -- the flag is the test
-  line_ok : (line_of k bs).ok ≡ is_line k bs
-  line_ok = line_choice (is_line k bs) refl
-
-  -- the numbers of a line in form
-  line-numbers : is_line k bs ≡ true → (line_of k bs).numbers ≡ padded max_fields (numbers_of k bs)
+  -- that of another
+  not_in_form : is_line k bs ≡ false → line_of k bs ≡ None
   unfolding line_of
-  line-numbers e = rw (e, line_of) refl
+  not_in_form e = rw (e, line_of) refl
 
-  -- the answer, where the line is in form and where it is not
-  pub answered : (l : Line) → l ≡ line_of k bs → l.ok ≡ true → (is_line k bs ≡ true) × (l.numbers ≡ padded max_fields (numbers_of k bs))
-  answered l e o =
-      let q : is_line k bs ≡ true = sym line_ok ∙ (ap (λ (x : Line). x.ok) (sym e) ∙ o) in
-      (q, ap (λ (x : Line). x.numbers) e ∙ line-numbers q)
+  -- numbers were answered
+  pub answered : (row : List ℤ) → Some row ≡ line_of k bs → (is_line k bs ≡ true) × (row ≡ padded max_fields (numbers_of k bs))
+  answered row e = split (is_line k bs)
+      (λ t. let q : Some row ≡ Some (padded max_fields (numbers_of k bs)) = e ∙ in_form t in (t, cc))
+      (λ f. let q : Some row ≡ None = e ∙ not_in_form f in cc)
 
-  -- and the answer for a line that is not
-  pub unanswered : (l : Line) → l ≡ line_of k bs → l.ok ≡ false → is_line k bs ≡ false
-  unanswered l e o = sym line_ok ∙ (ap (λ (x : Line). x.ok) (sym e) ∙ o)
+  -- none were
+  pub unanswered : None ≡ line_of k bs → is_line k bs ≡ false
+  unanswered e = split (is_line k bs)
+      (λ t. let q : None ≡ Some (padded max_fields (numbers_of k bs)) = e ∙ in_form t in cc)
+      (λ f. f)
+
+  -- and a line in form ends in the text
+  pub answered_inside : (row : List ℤ) → Some row ≡ line_of k bs → columns * k + 1 ≤ length bs
+  answered_inside row e = omega (arith, line-inside k bs (answered row e).0)
 
 -- ---- lines in general
 
@@ -97,13 +96,12 @@ length-widths n m k = simp (length-append, length-replicate) (omega arith)
 
 -- ---- the lines behind line 1
 
--- i lines are read, of which the last of all has w fields; they end at place `at`, and s holds their
--- numbers
-pub record Reached (n m w : ℕ) (c : ℤ) (bs : Bytes) (i at : ℕ) (s : LoopNest) : Type 0 where
+-- i lines are read, of which the last of all has w fields; `rest` stands behind them, and s holds
+-- their numbers
+pub record Reached (n m w : ℕ) (c : ℤ) (bs : Bytes) (i : ℕ) (rest : Bytes) (s : LoopNest) : Type 0 where
   pub most : i ≤ n + 1 + m + 1
-  pub inside : at ≤ length bs
-  pub form : are_lines (widths n m w) bs ≡ are_lines (drop i (widths n m w)) (drop at bs)
-  pub rest : drop i (line_numbers (widths n m w) bs) ≡ line_numbers (drop i (widths n m w)) (drop at bs)
+  pub form : are_lines (widths n m w) bs ≡ are_lines (drop i (widths n m w)) rest
+  pub numbers : drop i (line_numbers (widths n m w) bs) ≡ line_numbers (drop i (widths n m w)) rest
   pub held : s ≡ filled n m c (take i (line_numbers (widths n m w) bs))
 
 -- the limits that a line says
@@ -160,10 +158,6 @@ module _ (n m w : ℕ) (c : ℤ) (bs : Bytes) (low : n ≤ max_depth) (few : m �
   abbrev all : List (List ℤ)
   all = line_numbers (widths n m w) bs
 
-  -- before the first line
-  pub reached_start : (s : LoopNest) → s ≡ filled n m c [] → Reached n m w c bs 0 0 s
-  reached_start s e = record { most = omega arith; inside = omega arith; form = refl; rest = refl; held = e }
-
   -- how many lines there are
   long : length all ≡ n + 1 + m + 1
   long = length-lines ks bs ∙ length-widths n m w
@@ -182,7 +176,7 @@ module _ (n m w : ℕ) (c : ℤ) (bs : Bytes) (low : n ≤ max_depth) (few : m �
           let none : length (take i all) ≤ j = simp length-take (omega arith) in
           rw (get_or-eq_default (take i all) [] {n = j} none) (omega arith)
 
-  module _ (i p : ℕ) (s : LoopNest) (r : Reached n m w c bs i p s) (h : i < n + 1 + m + 1) where
+  module _ (i : ℕ) (rest : Bytes) (s : LoopNest) (r : Reached n m w c bs i rest s) (h : i < n + 1 + m + 1) where
     -- the width of line i
     abbrev k : ℕ
     k = get_or (widths n m w) i 0
@@ -192,53 +186,46 @@ module _ (n m w : ℕ) (c : ℤ) (bs : Bytes) (low : n ≤ max_depth) (few : m �
     widths_on = rw add-one (drop-cons ks i 0 (rw length-widths h))
 
     -- line i and those behind it
-    rest_on : drop i all ≡ numbers_of k (drop p bs) ∷ line_numbers (drop (i + 1) ks) (behind k (drop p bs))
-    rest_on = r.rest ∙ (ap (λ (l : List ℕ). line_numbers l (drop p bs)) widths_on ∙ numbers_on k (drop (i + 1) ks) (drop p bs))
+    rest_on : drop i all ≡ numbers_of k rest ∷ line_numbers (drop (i + 1) ks) (behind k rest)
+    rest_on = r.numbers ∙ (ap (λ (l : List ℕ). line_numbers l rest) widths_on ∙ numbers_on k (drop (i + 1) ks) rest)
 
     -- the numbers of line i
-    line-here : get_or all i [] ≡ numbers_of k (drop p bs)
+    line-here : get_or all i [] ≡ numbers_of k rest
     line-here =
         let z : i ≡ i + 0 = omega arith in
         ap (λ (j : ℕ). get_or all j []) z ∙ (sym (get_or-drop i all 0 []) ∙ ap (λ (l : List (List ℤ)). get_or l 0 []) rest_on)
 
     -- a malformed line
-    pub reached_malformed : is_line k (drop p bs) ≡ false → are_lines (widths n m w) bs ≡ false
-    reached_malformed e = r.form ∙ (ap (λ (l : List ℕ). are_lines l (drop p bs)) widths_on ∙ lines_off k (drop (i + 1) ks) (drop p bs) e)
+    pub reached_malformed : is_line k rest ≡ false → are_lines (widths n m w) bs ≡ false
+    reached_malformed e = r.form ∙ (ap (λ (l : List ℕ). are_lines l rest) widths_on ∙ lines_off k (drop (i + 1) ks) rest e)
 
     -- one line more
-    pub reached_more : (t : LoopNest) → is_line k (drop p bs) ≡ true → t ≡ with_line n m w s i (padded max_fields (numbers_of k (drop p bs)))
-        → Reached n m w c bs (i + 1) (p + (columns * k + 1)) t
+    pub reached_more : (t : LoopNest) → is_line k rest ≡ true → t ≡ with_line n m w s i (padded max_fields (numbers_of k rest))
+        → Reached n m w c bs (i + 1) (behind k rest) t
     reached_more t e f =
-        let on = line-inside k (drop p bs) e in
-        let room : columns * k < length bs - p = rw length-drop at on in
-        let far : behind k (drop p bs) ≡ drop (p + (columns * k + 1)) bs = drop-drop (columns * k + 1) p bs in
-        let more : take (i + 1) all ≡ take i all ++ (numbers_of k (drop p bs) ∷ []) = rw (add-one i, ← line-here) (take-suc all i [] (rw long h)) in
+        let more : take (i + 1) all ≡ take i all ++ (numbers_of k rest ∷ []) = rw (add-one i, ← line-here) (take-suc all i [] (rw long h)) in
         record {
           most = omega arith;
-          inside = omega arith;
-          form = r.form ∙ (ap (λ (l : List ℕ). are_lines l (drop p bs)) widths_on ∙ (lines_on k (drop (i + 1) ks) (drop p bs) e ∙ ap (are_lines (drop (i + 1) ks)) far));
-          rest = sym (drop-drop 1 i all) ∙ (ap (drop 1) rest_on ∙ ap (line_numbers (drop (i + 1) ks)) far);
+          form = r.form ∙ (ap (λ (l : List ℕ). are_lines l rest) widths_on ∙ lines_on k (drop (i + 1) ks) rest e);
+          numbers = sym (drop-drop 1 i all) ∙ ap (drop 1) rest_on;
           held =
               f
-              ∙ (ap (λ (x : LoopNest). with_line n m w x i (padded max_fields (numbers_of k (drop p bs)))) r.held
-              ∙ (sym (line_placed n m w c (take i all) (numbers_of k (drop p bs)) i (length-take-le i all (rw long (omega arith))) low few least limit (numbers-length k (drop p bs)) h (narrow i))
+              ∙ (ap (λ (x : LoopNest). with_line n m w x i (padded max_fields (numbers_of k rest))) r.held
+              ∙ (sym (line_placed n m w c (take i all) (numbers_of k rest) i (length-take-le i all (rw long (omega arith))) low few least limit (numbers-length k rest) h (narrow i))
               ∙ ap (filled n m c) (sym more)));
         }
 
     -- the same by what the line reader answered for a line of v fields
-    module _ (v : ℕ) (l : Line) (wide : v ≡ get_or (widths n m w) i 0) (read : l ≡ line_of v (take (length bs - p) (drop p bs))) where
-      -- what was read is line i
-      read_here : l ≡ line_of k (drop p bs)
-      read_here = read ∙ (rw (rest_part bs p, wide) refl)
-
+    module _ (v : ℕ) (wide : v ≡ get_or (widths n m w) i 0) where
       -- the answer for a malformed line
-      pub turn-malformed : l.ok ≡ false → are_lines (widths n m w) bs ≡ false
-      turn-malformed o = reached_malformed (unanswered k (drop p bs) l read_here o)
+      pub turn-malformed : None ≡ line_of v rest → are_lines (widths n m w) bs ≡ false
+      turn-malformed read = reached_malformed (unanswered k rest (rw wide at read))
 
       -- the state after a line in form
-      pub turn_more : (t : LoopNest) → l.ok ≡ true → t ≡ with_line n m w s i l.numbers → Reached n m w c bs (i + 1) (p + (columns * v + 1)) t
-      turn_more t o e =
-          let a = answered k (drop p bs) l read_here o in
+      pub turn_more : (row : List ℤ) → Some row ≡ line_of v rest → (t : LoopNest) → t ≡ with_line n m w s i row
+          → Reached n m w c bs (i + 1) (behind v rest) t
+      turn_more row read t e =
+          let a = answered k rest row (rw wide at read) in
           rw wide (reached_more t a.0 (e ∙ ap (with_line n m w s i) a.1))
 
   -- ---- the end
@@ -258,31 +245,31 @@ module _ (n m w : ℕ) (c : ℤ) (bs : Bytes) (low : n ≤ max_depth) (few : m �
       refl
       refl
 
-  module _ (i p : ℕ) (s : LoopNest) (r : Reached n m w c bs i p s) (h : n + 1 + m + 1 ≤ i) where
+  module _ (i : ℕ) (rest : Bytes) (s : LoopNest) (r : Reached n m w c bs i rest s) (h : n + 1 + m + 1 ≤ i) where
     -- all lines are read
     end_is : i ≡ n + 1 + m + 1
     end_is = let a = r.most in omega arith
 
     -- the form is kept if nothing follows
-    form_end : are_lines (widths n m w) bs ≡ eqb (length bs - p) 0
+    form_end : are_lines (widths n m w) bs ≡ eqb (length rest) 0
     form_end =
         let none : drop i ks ≡ [] = ap (λ (j : ℕ). drop j ks) (end_is ∙ sym (length-widths n m w)) ∙ drop-length ks in
-        r.form ∙ (ap (λ (l : List ℕ). are_lines l (drop p bs)) none ∙ (lines_none (drop p bs) ∙ ap (λ (j : ℕ). eqb j 0) (length-drop p bs)))
+        r.form ∙ (ap (λ (l : List ℕ). are_lines l rest) none ∙ lines_none rest)
 
     -- bytes behind the last line
-    pub body_trailing : (p ≡ length bs → ⊥) → are_lines (widths n m w) bs ≡ false
-    body_trailing e = form_end ∙ ne_eqb (length bs - p) 0 (λ z. e (let a = r.inside in omega arith))
+    pub body_trailing : 0 < length rest → are_lines (widths n m w) bs ≡ false
+    body_trailing e = form_end ∙ ne_eqb (length rest) 0 (λ z. absurd (omega arith))
 
     -- nothing follows the last line
-    pub body-whole : w ≡ last_width n m (length bs) → p ≡ length bs → ◌≡◌ {A = Body} (record { ok = true; nest = s }) (body_read n m c bs)
+    pub body-whole : w ≡ last_width n m (length bs) → length rest ≡ 0 → Some s ≡ body_read n m c bs
     unfolding body_read
     body-whole told e =
-        let f : fits (shapes n m) bs ≡ true = shapes-one n m bs ∙ (ap (λ j. are_lines (widths n m j) bs) (sym told) ∙ (form_end ∙ eq-eqb (length bs - p) 0 (omega arith))) in
+        let f : fits (shapes n m) bs ≡ true = shapes-one n m bs ∙ (ap (λ j. are_lines (widths n m j) bs) (sym told) ∙ (form_end ∙ eq-eqb (length rest) 0 e)) in
         let g : s ≡ nest_from n m c all = r.held ∙ (ap (filled n m c) (take_all i all (rw long h)) ∙ filled-nest) in
         let shape : first_fitting (shapes n m) bs ≡ widths n m w = shapes-first n m bs f ∙ ap (widths n m) (sym told) in
         rw (f, g, shape, body_read) refl
 
   -- a body that is not in form
-  pub body-malformed : w ≡ last_width n m (length bs) → are_lines (widths n m w) bs ≡ false → ◌≡◌ {A = Body} (record { ok = false; nest = empty_nest }) (body_read n m c bs)
+  pub body-malformed : w ≡ last_width n m (length bs) → are_lines (widths n m w) bs ≡ false → None ≡ body_read n m c bs
   unfolding body_read
   body-malformed told e = rw (shapes-one n m bs ∙ (ap (λ j. are_lines (widths n m j) bs) (sym told) ∙ e), body_read) refl

@@ -5,20 +5,19 @@ use mathlib.Core.Path.{◌≡◌, refl, sym, ap, subst, ◌∙◌}
 use mathlib.Core.Bool.{true, false, not}
 use mathlib.Core.List.{List, [], ◌∷◌, ◌++◌}
 use mathlib.Core.Logic.{inl, inr, ◌↔◌}
-use Prim.Native.Nat.{ℕ, ◌+◌, ◌≤◌, ◌<◌}
-use native.Mathlib.Nat.{zero-add}
+use Prim.Native.Nat.{ℕ, zero, suc, ◌+◌, ◌≤◌, ◌<◌}
 use native.Mathlib.Omega.{arith}
 use lib.IntN.{ℤ, pos}
 use lib.ListN.{length, get_or, replicate, length-replicate, get_or-replicate}
 use lib.Seq.{ext_get_or}
-use Rattle.integers.specs.Lists.{tab, place}
+use Rattle.std.specs.List.{AllWithin, HoldsAt}
+use Rattle.integers.specs.Lists.{any, tab, place}
 use Rattle.integers.proofs.Lists.{split, clash, any_at, place-below, place-passes, get_or-tab}
 use Rattle.integers.specs.Vector.{eq_z}
 use Rattle.integers.proofs.Vector.{eq_z_true, eq_z-same}
 use Rattle.nest.specs.declared.LoopNest.{LoopNest}
 use Rattle.nest.specs.Nest.{part, count_of, boundaries_of, weights_of}
 use Rattle.nest.proofs.Lengths.{boundaries-length}
-use Rattle.nest.proofs.Words.{part_at, part_length}
 use Rattle.nest_text.specs.Text.{at, short_last, long_last, differ, last_of}
 use Rattle.nest_text.specs.Reader.{value_count}
 use Rattle.nest_text.specs.Form.{LastSays, AllEqual}
@@ -59,29 +58,30 @@ replicate_equal n z = (differ_words (replicate n z)).1 (λ i j l k. each i l ∙
     each : (i : ℕ) → i < length (replicate n z) → at (replicate n z) i ≡ z
     each i l = get_or-replicate n i z (pos 0) (subst (λ m. i < m) (length-replicate n z) l)
 
--- ---- how many of the first m numbers of an array are written
+-- ---- how many numbers are written
 
-module _ (xs : List ℤ) (m : ℕ) where
-  -- their places
-  place_of : (i : ℕ) → i < m → at (part xs 0 m) i ≡ at xs i
-  place_of i l = part_at xs 0 m i l ∙ ap (λ j. at xs j) (zero-add i)
+-- one, where each is the first
+pub count-one : (a : ℤ) (zs : List ℤ) → AllWithin (λ z. z ≡ a) zs 0 (length zs) → value_count (a ∷ zs) ≡ 1
+unfolding value_count
+count-one a zs h = rw ((differ_words (a ∷ zs)).1 (λ i j l k. each i l ∙ sym (each j k)), value_count) refl
+  where
+    each : (i : ℕ) → i < suc (length zs) → at (a ∷ zs) i ≡ a
+    each zero l = refl
+    each (suc i) l = h i (pos 0) (omega arith) (omega arith)
 
-  -- one, where each is the first
-  pub count-one : ((i : ℕ) → i < m → at xs i ≡ at xs 0) → value_count (part xs 0 m) ≡ 1
-  unfolding value_count
-  count-one h = rw ((differ_words (part xs 0 m)).1 (λ i j l k. each i l ∙ sym (each j k)), value_count) refl
-    where
-      each : (i : ℕ) → i < length (part xs 0 m) → at (part xs 0 m) i ≡ at xs 0
-      each i l = let b = subst (λ n. i < n) (part_length xs 0 m) l in place_of i b ∙ h i b
+-- all, where one is another
+pub count-all : (a : ℤ) (zs : List ℤ) (k : ℕ) → k < length zs → HoldsAt (λ z. z ≡ a → ⊥) zs k → value_count (a ∷ zs) ≡ suc (length zs)
+unfolding value_count
+count-all a zs k l h =
+    let t : differ (a ∷ zs) ≡ true = split (differ (a ∷ zs)) (λ t. t)
+    (λ f. absurd (h (pos 0) (same_first (a ∷ zs) f (suc k) (omega arith)))) in
+    rw (t, value_count) refl
 
-  -- all, where one is another
-  pub count-all : (i : ℕ) → i < m → (at xs i ≡ at xs 0 → ⊥) → value_count (part xs 0 m) ≡ m
-  unfolding value_count
-  count-all i l h =
-      let equal : differ (part xs 0 m) ≡ false → at xs i ≡ at xs 0 =
-      λ f. sym (place_of i l) ∙ (differ_words (part xs 0 m)).0 f i 0 (subst (λ n. i < n) (sym (part_length xs 0 m)) l) (rw (part_length xs 0 m) (omega arith)) ∙ place_of 0 (omega arith) in
-      let t : differ (part xs 0 m) ≡ true = split (differ (part xs 0 m)) (λ t. t) (λ f. absurd (h (equal f))) in
-      rw (t, value_count) (part_length xs 0 m)
+-- one, where there is none
+pub count_none : (zs : List ℤ) → length zs ≡ 0 → value_count zs ≡ 1
+unfolding value_count differ any
+count_none [] h = refl
+count_none (z ∷ zs) h = absurd (omega arith)
 
 -- ---- the last line that is written
 

@@ -13,8 +13,7 @@ use lib.IntN.{ℤ, pos, negsuc}
 use lib.ListN.{length, get_or, drop, replicate, length-replicate}
 use lib.Seq.{drop_at}
 use Rattle.integers.proofs.Lists.{and_true}
-use Rattle.nest_text.specs.declared.fields.Field.TheVariants.{Number}
-use Rattle.nest_text.specs.declared.fields.Run.TheVariants.{Value, NoDigits}
+use Rattle.std.proofs.Common.{Some, None}
 use Rattle.nest_text.specs.Fields.{Bytes, columns, space, minus, zero_digit, nine_digit, seven_digits, blanks_of}
 use Rattle.nest_text.specs.Fields.{all_digits, value_of, is_digit, digits_of, signed_of, read_of, digits_to, numeral_of}
 use Rattle.nest_text.specs.Fields.{field_of, no_leading_zero}
@@ -77,12 +76,12 @@ leads-written (suc f) n acc h l = by (ltb n 10) refl (λ p q. leads-written f (n
     by false e go = go (tenth n f (rw (add-one f) h)) (omega (arith, ltb-false n 10 e))
 
 -- the digits of 0 are read as 0
-zero-back : digits_of (digits_to columns 0 []) ≡ Value 0
+zero-back : digits_of (digits_to columns 0 []) ≡ Some 0
 unfolding digits_of value_of digits_to all_digits
 zero-back = refl
 
 -- the digits of any number are read as it
-digits-back : (n : ℕ) → n < seven_digits → digits_of (digits_to columns n []) ≡ Value n
+digits-back : (n : ℕ) → n < seven_digits → digits_of (digits_to columns n []) ≡ Some n
 unfolding digits_of value_of all_digits
 digits-back zero h = zero-back
 digits-back (suc n) h =
@@ -115,7 +114,7 @@ head-written zero h = head-zero
 head-written (suc n) h = let w = leads-written columns (suc n) [] h (omega arith) in omega arith
 
 -- what a numeral says
-numeral_back : (z : ℤ) → InColumns z → signed_of (numeral_of z) ≡ Number z
+numeral_back : (z : ℤ) → InColumns z → signed_of (numeral_of z) ≡ Some z
 unfolding signed_of numeral_of
 numeral_back (pos n) h =
     let l = within-pos n h in
@@ -132,7 +131,7 @@ numeral_head (pos n) h p = absurd (omega (arith, head-written n (within-pos n h)
 numeral_head (negsuc n) h p = absurd (omega arith)
 
 -- a field that was written is read as its number
-pub read-written : (z : ℤ) → InColumns z → read_of (field_of z) ≡ Number z
+pub read-written : (z : ℤ) → InColumns z → read_of (field_of z) ≡ Some z
 unfolding field_of
 read-written z h = spaced (columns - length (numeral_of z)) (numeral_of z) (numeral_head z h) ∙ numeral_back z h
 
@@ -164,7 +163,7 @@ one-digit zero a acc h l = absurd (omega arith)
 one-digit (suc f) a acc h l = rw (lt-ltb a 10 h) refl
 
 -- what an answer says of the digits
-pub value-of : (t : Bool) (v n : ℕ) → cond t (Value v) NoDigits ≡ Value n → (t ≡ true) × (v ≡ n)
+pub value-of : (t : Bool) (v n : ℕ) → cond t (Some v) None ≡ Some n → (t ≡ true) × (v ≡ n)
 value-of true v n e = (refl, cc)
 value-of false v n e = let z : ◌≡◌ {A = ℕ} 0 1 = cc in absurd (omega arith)
 
@@ -204,7 +203,7 @@ whole (b ∷ d) h s l g = by (eqb b zero_digit) refl
         ap (λ (x : ℕ). digits_to x (value_of a d) []) f ∙ (written_after d (columns - length d) a [] pos1 both.1 ∙ (one-digit (columns - length d) a (d ++ []) (omega (arith, hi)) (omega arith) ∙ rw (back, append-nil d) refl))
 
 -- digits that were read are written again
-pub written_read : (d : Bytes) (n : ℕ) → length d ≤ columns → digits_of d ≡ Value n → digits_to columns n [] ≡ d
+pub written_read : (d : Bytes) (n : ℕ) → length d ≤ columns → digits_of d ≡ Some n → digits_to columns n [] ≡ d
 unfolding digits_of
 written_read d n h e =
     let k = value-of ((ltb 0 (length d) && no_leading_zero d) && all_digits d) (value_of 0 d) n e in

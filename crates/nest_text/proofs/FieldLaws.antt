@@ -7,34 +7,46 @@ use Prim.Native.Nat.{ℕ, zero, suc, ◌+◌, ◌*◌, ◌-◌, ◌/◌, ◌%◌
 use native.Mathlib.Numerals.{add-one}
 use native.Mathlib.Nat.{pow-suc}
 use native.Mathlib.Omega.{arith}
-use borrow.Author.Tests.{eq-eqb, ne_eqb, le-ltb, lt-ltb, leb-true, ltb-true, ltb-false}
+use borrow.Author.Tests.{le-ltb, lt-ltb, leb-true, ltb-true, ltb-false}
 use lib.Dec.{T, leb, ltb}
 use lib.IntN.{ℤ, pos, negsuc, nat_abs, neg_ℤ, ◌-ℤ◌, +ℤ_idl}
-use lib.Signed.{mag, lt_z, non_neg}
+use lib.Signed.{mag, lt_z}
 use lib.ListN.{length, get_or, drop, take, set, replicate, length-drop, length-replicate, replicate-append-replicate}
 use lib.Seq.{drop-cons, drop-length, take_all, lt-length-set, get_or-set_same, drop-set-lt, take-set-le, take-take}
-use lib.Seq.{set_at, drop-drop}
+use lib.Seq.{set_at}
 use mir.Syntax.{w64}
 use mir.Val.{to_z, of_z}
 use mir.Facts.{to_z-of_z}
-use Rattle.integers.proofs.Lists.{and_left}
+use Rattle.integers.proofs.Lists.{and_left, split}
+use Rattle.std.proofs.Common.{take_while, eqb}
+use Rattle.std.specs.List.{prefix_len}
+use Rattle.std.proofs.lemmas.List.Folds.{length-prefix_len}
 use Rattle.nest_text.specs.Fields.{Bytes, columns, space, minus, zero_digit, seven_digits, is_digit}
 use Rattle.nest_text.specs.Fields.{blanks_of, all_digits, value_of, digits_to, numeral_of, field_of}
 use Rattle.nest_text.specs.Stored.{InColumns}
 
+-- ---- spaces
+
+-- they are the bytes that are taken while they are spaces
+pub blanks-taken : (l : Bytes) → blanks_of l ≡ length (take_while (λ b. eqb b space) l)
+unfolding blanks_of
+blanks-taken l = counted l ∙ sym (length-prefix_len (λ b. eqb b space) l)
+  where
+    counted : (l : Bytes) → blanks_of l ≡ prefix_len (λ b. eqb b space) l
+    counted [] = refl
+    counted (b ∷ l) = split (eqb b space) (λ t. rw (t, counted l) (omega arith)) (λ f. rw f refl)
+
+-- there are no more of them than bytes
+pub blanks_inside : (l : Bytes) → blanks_of l ≤ length l
+unfolding blanks_of
+blanks_inside [] = omega arith
+blanks_inside (b ∷ l) = split (eqb b space)
+    (λ t. rw t (omega (arith, blanks_inside l)))
+    (λ f. rw f (omega arith))
+
 -- ---- the bytes from place k on
 
 module _ (l : Bytes) (k : ℕ) (h : k < length l) where
-  -- another byte ends the spaces
-  pub blanks_stop : (get_or l k 0 ≡ space → ⊥) → blanks_of (drop k l) ≡ 0
-  unfolding blanks_of
-  blanks_stop e = rw (drop-cons l k 0 h, ne_eqb (get_or l k 0) space e) refl
-
-  -- a space, and those behind it
-  pub blanks-more : get_or l k 0 ≡ space → blanks_of (drop k l) ≡ blanks_of (drop (k + 1) l) + 1
-  unfolding blanks_of
-  blanks-more e = rw (add-one k, drop-cons l k 0 h, eq-eqb (get_or l k 0) space e) refl
-
   -- a byte, and whether all behind it are digits
   pub digits_more : all_digits (drop k l) ≡ (is_digit (get_or l k 0) && all_digits (drop (k + 1) l))
   unfolding all_digits
@@ -44,11 +56,6 @@ module _ (l : Bytes) (k : ℕ) (h : k < length l) where
   pub value-more : (a : ℕ) → value_of a (drop k l) ≡ value_of (a * 10 + (get_or l k 0 - zero_digit)) (drop (k + 1) l)
   unfolding value_of
   value-more a = rw (add-one k, drop-cons l k 0 h) refl
-
--- no space behind the last byte
-pub blanks_end : (l : Bytes) → blanks_of (drop (length l) l) ≡ 0
-unfolding blanks_of
-blanks_end l = rw (drop-length l) refl
 
 -- no byte is left that is no digit
 pub digits_end : (l : Bytes) → all_digits (drop (length l) l) ≡ true
@@ -152,25 +159,6 @@ take-blank zero n h = refl
 take-blank (suc k) zero h = absurd (omega arith)
 take-blank (suc k) (suc n) h = ap (λ (l : Bytes). space ∷ l) (take-blank k n (omega arith))
 
--- ---- the size of a number that six columns hold
-
--- turned by its sign, it fits the machine, is not negative and of the same size
-pub record Sized (z : ℤ) : Type 0 where
-  pub small : mag (pos 0 -ℤ z) < 2 ^ 63
-  pub plus : T (non_neg (pos 0 -ℤ z))
-  pub same : nat_abs (pos 0 -ℤ z) ≡ nat_abs z
-  pub million : nat_abs z < seven_digits
-
--- of a negative number
-pub sized-neg : (z : ℤ) → InColumns z → lt_z z (pos 0) ≡ true → Sized z
-sized-neg (pos n) h l = absurd (omega (arith, ltb-true n 0 l))
-sized-neg (negsuc n) h l = record { small = omega (arith, within-neg n h); plus = tt; same = omega arith; million = omega (arith, within-neg n h) }
-
--- of another
-pub sized-pos : (z : ℤ) → InColumns z → lt_z z (pos 0) ≡ false → T (non_neg z) × (nat_abs z < seven_digits)
-sized-pos (pos n) h l = (tt, within-pos n h)
-sized-pos (negsuc n) h l = absurd (subst T l tt)
-
 -- ---- the six columns of a number whose digits are d, from column a on
 
 module _ (a : ℕ) (d : Bytes) (six : a + length d ≡ columns) where
@@ -203,9 +191,3 @@ pub written-plain : (z : ℤ) (a : ℕ) → lt_z z (pos 0) ≡ false → a + len
 unfolding field_of numeral_of
 written-plain (pos n) a l six = field_plain a (digits_to columns n []) six
 written-plain (negsuc n) a l six = absurd (subst T l tt)
-
--- what a slice holds after its part from f to f + 6 came back as d
-pub put_part : (l d : Bytes) (f : ℕ) → take f l ++ (d ++ drop (f + columns - f) (drop f l)) ≡ take f l ++ (d ++ drop (f + columns) l)
-put_part l d f =
-    let e : f + columns - f ≡ columns = omega arith in
-    rw (e, drop-drop columns f l) refl

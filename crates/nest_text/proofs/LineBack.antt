@@ -16,8 +16,7 @@ use lib.ListN.{length, get_or, take, drop, length-append, length-drop, take-appe
 use lib.Seq.{take_at, drop_at, get_or_at, drop-append-add, drop-cons, take-add, length-take-le}
 use Rattle.integers.specs.Lists.{any, tab}
 use Rattle.integers.proofs.Lists.{clash, split, and_true, any-tab-each, any-tab-none, tab-list, flat_map-append, flat_map-one}
-use Rattle.nest_text.specs.declared.fields.Field.{Field}
-use Rattle.nest_text.specs.declared.fields.Field.TheVariants.{Number, Malformed}
+use Rattle.std.proofs.Common.{Option, Some, None}
 use Rattle.nest_text.specs.Fields.{columns, Bytes, newline, blanks_of, all_digits, digits_of, signed_of, read_of, field_of}
 use Rattle.nest_text.specs.Text.{line_length, line, is_malformed, number_of, field_at, is_line, numbers_of, behind}
 use Rattle.nest_text.specs.Text.{are_lines, line_numbers, Shape, fits, first_fitting}
@@ -65,7 +64,7 @@ all-length (z ∷ zs) h = step (all-length zs h.1)
     step ih = unfold flat_map in length-append (field_of z) (flat_map field_of zs) ∙ omega (arith, field_length z h.0, ih)
 
 -- field i is read as number i
-field_written : (zs : List ℤ) (rest : Bytes) (i : ℕ) → AllInColumns zs → i < length zs → field_at (flat_map field_of zs ++ rest) i ≡ Number (get_or zs i (pos 0))
+field_written : (zs : List ℤ) (rest : Bytes) (i : ℕ) → AllInColumns zs → i < length zs → field_at (flat_map field_of zs ++ rest) i ≡ Some (get_or zs i (pos 0))
 field_written [] rest i h l = absurd (not-suc-le-zero l)
 field_written (z ∷ zs) rest zero h l =
     ap (λ b. read_of (take columns b)) (fields_cons z zs rest) ∙ ap read_of (take_at (field_of z) (flat_map field_of zs ++ rest) columns (field_length z h.0)) ∙ read-written z h.0
@@ -88,7 +87,7 @@ line_read zs rest h =
     let fields = flat_map field_of zs in
     let front : (fields ++ (newline ∷ [])) ++ rest ≡ fields ++ (newline ∷ rest) = append_assoc fields (newline ∷ []) rest in
     let long = all-length zs h in
-    let read : (i : ℕ) → i < length zs → field_at ((fields ++ (newline ∷ [])) ++ rest) i ≡ Number (get_or zs i (pos 0)) = λ i l. ap (λ b. field_at b i) front ∙ field_written zs (newline ∷ rest) i h l in
+    let read : (i : ℕ) → i < length zs → field_at ((fields ++ (newline ∷ [])) ++ rest) i ≡ Some (get_or zs i (pos 0)) = λ i l. ap (λ b. field_at b i) front ∙ field_written zs (newline ∷ rest) i h l in
     record {
       in_form =
           ap₂ (λ a b. not a && b)
@@ -111,9 +110,9 @@ lines-read (l ∷ ls) h = step (lines-read ls h.1) (line_read l (flat_map line l
     )
 
 -- ---- a line that was read
-known : (f : Field) → is_malformed f ≡ false → f ≡ Number (number_of f)
-known (Number z) e = refl
-known Malformed e = clash refl e
+known : (f : Option ℤ) → is_malformed f ≡ false → f ≡ Some (number_of f)
+known (Some z) e = refl
+known None e = clash refl e
 
 -- a field that was read has its number in columns
 field_again : (bs : Bytes) (i : ℕ) → columns * i + columns ≤ length bs → is_malformed (field_at bs i) ≡ false
@@ -161,7 +160,7 @@ line_again k bs h =
 -- ---- a line has one number of fields alone
 
 -- byte 10 begins no number
-newline-malformed : (l : Bytes) → read_of (newline ∷ l) ≡ Malformed
+newline-malformed : (l : Bytes) → read_of (newline ∷ l) ≡ None
 unfolding read_of blanks_of signed_of digits_of all_digits
 newline-malformed l = rw (lt-ltb 0 (suc (length l)) (omega arith)) refl
 
@@ -176,7 +175,7 @@ no_longer j k bs l h g =
     let there : drop (columns * j) bs ≡ newline ∷ drop (suc (columns * j)) bs =
     drop-cons bs (columns * j) 0 room ∙ ap (λ (x : ℕ). x ∷ drop (suc (columns * j)) bs) ten in
     let none : is_malformed (field_at bs j) ≡ false = any-tab-each is_malformed (field_at bs) k j (not-true (any is_malformed (tab (field_at bs) k)) b.0) l in
-    let bad : field_at bs j ≡ Malformed = ap (λ (x : Bytes). read_of (take columns x)) there ∙ newline-malformed (take 5 (drop (suc (columns * j)) bs)) in
+    let bad : field_at bs j ≡ None = ap (λ (x : Bytes). read_of (take columns x)) there ∙ newline-malformed (take 5 (drop (suc (columns * j)) bs)) in
     clash (ap is_malformed bad) none
 
 -- so two lines with which the bytes begin have as many

@@ -14,9 +14,7 @@ use lib.Dec.{eqb, leb, ltb}
 use lib.IntN.{ℤ, pos, negsuc, neg_ℤ}
 use lib.ListN.{length, get_or, drop, replicate, length-append, length-replicate, length-map}
 use Rattle.integers.proofs.Lists.{and_true, split}
-use Rattle.nest_text.specs.declared.fields.Field.TheVariants.{Number, Malformed}
-use Rattle.nest_text.specs.declared.fields.Run.{Run}
-use Rattle.nest_text.specs.declared.fields.Run.TheVariants.{Value, NoDigits}
+use Rattle.std.proofs.Common.{Option, Some, None}
 use Rattle.nest_text.specs.Fields.{columns, space, minus, zero_digit, nine_digit, Bytes, blanks_of, is_digit}
 use Rattle.nest_text.specs.Fields.{all_digits, value_of, no_leading_zero, digits_of, plain, negative, signed_of, read_of}
 use Rattle.nest_text.specs.Fields.{digits_to, numeral_of, field_of}
@@ -93,16 +91,16 @@ led_back ds s h z =
     sym (length-map ds (λ d. zero_digit + d)) ∙ eqb-true (length (digit_bytes ds)) 1 one
 
 -- digits are read as the number that they say
-digits-read : (ds : List ℕ) → Decimal ds → digits_of (digit_bytes ds) ≡ Value (decimal ds)
+digits-read : (ds : List ℕ) → Decimal ds → digits_of (digit_bytes ds) ≡ Some (decimal ds)
 unfolding digits_of
 digits-read ds h =
     let l = digit_bytes ds in
     let some : 0 < length l = subst (λ n. 0 < n) (sym (length-map ds (λ d. zero_digit + d))) h.some_digit in
     let value : value_of 0 l ≡ decimal ds = value-decimal ds 0 ∙ omega arith in
-    ap₂ (λ b (n : ℕ). cond b (Value n) NoDigits) (ap₂ (λ a b. a && b) (ap₂ (λ a b. a && b) (lt-ltb 0 (length l) some) (led ds h)) (bytes-digits ds h.each_digit)) value
+    ap₂ (λ b (n : ℕ). cond b (Some n) None) (ap₂ (λ a b. a && b) (ap₂ (λ a b. a && b) (lt-ltb 0 (length l) some) (led ds h)) (bytes-digits ds h.each_digit)) value
 
 -- what is read as a number has digits that say it
-read-digits : (l : Bytes) (n : ℕ) → digits_of l ≡ Value n → (ds : List ℕ) × Decimal ds × (l ≡ digit_bytes ds) × (decimal ds ≡ n)
+read-digits : (l : Bytes) (n : ℕ) → digits_of l ≡ Some n → (ds : List ℕ) × Decimal ds × (l ≡ digit_bytes ds) × (decimal ds ≡ n)
 unfolding digits_of
 read-digits l n e =
     let k = value-of ((ltb 0 (length l) && no_leading_zero l) && all_digits l) (value_of 0 l) n e in
@@ -125,7 +123,7 @@ first-digit : (ds : List ℕ) → Decimal ds → zero_digit ≤ get_or (digit_by
 first-digit ds h = omega (arith, first_byte ds h.some_digit)
 
 -- digits alone
-alone_read : (ds : List ℕ) → Decimal ds → signed_of (digit_bytes ds) ≡ Number (pos (decimal ds))
+alone_read : (ds : List ℕ) → Decimal ds → signed_of (digit_bytes ds) ≡ Some (pos (decimal ds))
 unfolding signed_of
 alone_read ds h =
     let l = digit_bytes ds in
@@ -133,51 +131,51 @@ alone_read ds h =
     ap₂ (λ b r. cond b (negative (digits_of (drop 1 l))) (plain r)) no_minus (digits-read ds h)
 
 -- a minus before them
-minus-read : (ds : List ℕ) → Decimal ds → 0 < decimal ds → signed_of (minus ∷ digit_bytes ds) ≡ Number (neg_ℤ (pos (decimal ds)))
+minus-read : (ds : List ℕ) → Decimal ds → 0 < decimal ds → signed_of (minus ∷ digit_bytes ds) ≡ Some (neg_ℤ (pos (decimal ds)))
 unfolding signed_of
 minus-read ds h p =
-    ap negative (digits-read ds h) ∙ ap (λ b. cond b Malformed (Number (neg_ℤ (pos (decimal ds))))) (ne_eqb (decimal ds) 0 (λ q. absurd (omega arith)))
+    ap negative (digits-read ds h) ∙ ap (λ b. cond b None (Some (neg_ℤ (pos (decimal ds))))) (ne_eqb (decimal ds) 0 (λ q. absurd (omega arith)))
 
 -- what the words say is read
-words_read : (l : Bytes) (z : ℤ) → Numeral l z → read_of l ≡ Number z
+words_read : (l : Bytes) (z : ℤ) → Numeral l z → read_of l ≡ Some z
 words_read l z (digits_alone k ds h e) = ap read_of e ∙ spaced k (digit_bytes ds) (λ p. absurd (omega (arith, first-digit ds h))) ∙ alone_read ds h
 words_read l z (minus_digits k ds h p e) = ap read_of e ∙ spaced k (minus ∷ digit_bytes ds) (λ q. absurd (omega arith)) ∙ minus-read ds h p
 
 module _ (l t : Bytes) (k : ℕ) (e : l ≡ replicate k space ++ t) where
   -- a plain number after spaces
-  plain_words : (r : Run) (z : ℤ) → digits_of t ≡ r → plain r ≡ Number z → Numeral l z
-  plain_words (Value n) z d f =
+  plain_words : (r : Option ℕ) (z : ℤ) → digits_of t ≡ r → plain r ≡ Some z → Numeral l z
+  plain_words (Some n) z d f =
       let w = read-digits t n d in
       let q : pos n ≡ z = cc in
       subst (Numeral l) (ap pos w.3 ∙ q) (digits_alone k w.0 w.1 (e ∙ ap (λ (x : Bytes). replicate k space ++ x) w.2))
-  plain_words NoDigits z d f = let q : ◌≡◌ {A = ℕ} 0 1 = cc in absurd (omega arith)
+  plain_words None z d f = let q : ◌≡◌ {A = ℕ} 0 1 = cc in absurd (omega arith)
 
   -- one with a minus
-  minus_words : (r : Run) (z : ℤ) → get_or t 0 0 ≡ minus → digits_of (drop 1 t) ≡ r → negative r ≡ Number z → Numeral l z
-  minus_words (Value zero) z m d f = let q : ◌≡◌ {A = ℕ} 0 1 = cc in absurd (omega arith)
-  minus_words (Value (suc n)) z m d f =
-      let g : Number (negsuc n) ≡ Number z = simp (ne_eqb (suc n) 0 (λ p. absurd (omega arith))) at f in
+  minus_words : (r : Option ℕ) (z : ℤ) → get_or t 0 0 ≡ minus → digits_of (drop 1 t) ≡ r → negative r ≡ Some z → Numeral l z
+  minus_words (Some zero) z m d f = let q : ◌≡◌ {A = ℕ} 0 1 = cc in absurd (omega arith)
+  minus_words (Some (suc n)) z m d f =
+      let g : Some (negsuc n) ≡ Some z = simp (ne_eqb (suc n) 0 (λ p. absurd (omega arith))) at f in
       let q : negsuc n ≡ z = cc in
       let w = read-digits (drop 1 t) (suc n) d in
       let some : 0 < decimal w.0 = omega (arith, w.3) in
       subst (Numeral l) (ap (λ x. neg_ℤ (pos x)) w.3 ∙ q)
       (minus_digits k w.0 w.1 some (e ∙ ap (λ (x : Bytes). replicate k space ++ x) (head_tail t minus (omega arith) m ∙ ap (λ (x : Bytes). minus ∷ x) w.2)))
-  minus_words NoDigits z m d f = let q : ◌≡◌ {A = ℕ} 0 1 = cc in absurd (omega arith)
+  minus_words None z m d f = let q : ◌≡◌ {A = ℕ} 0 1 = cc in absurd (omega arith)
 
 -- what is read, the words say
-read_words : (l : Bytes) (z : ℤ) → read_of l ≡ Number z → Numeral l z
+read_words : (l : Bytes) (z : ℤ) → read_of l ≡ Some z → Numeral l z
 unfolding read_of signed_of
 read_words l z e = by (eqb (get_or t 0 0) minus) refl e
   where
     t : Bytes
     t = drop (blanks_of l) l
 
-    by : (b : Bool) → eqb (get_or t 0 0) minus ≡ b → cond b (negative (digits_of (drop 1 t))) (plain (digits_of t)) ≡ Number z → Numeral l z
+    by : (b : Bool) → eqb (get_or t 0 0) minus ≡ b → cond b (negative (digits_of (drop 1 t))) (plain (digits_of t)) ≡ Some z → Numeral l z
     by true m g = minus_words l t (blanks_of l) (blanks_split l) (digits_of (drop 1 t)) z (eqb-true (get_or t 0 0) minus m) refl g
     by false m g = plain_words l t (blanks_of l) (blanks_split l) (digits_of t) z refl g
 
 -- bytes are read as a number exactly if they say it in the document's words
-pub numeral_iff : (l : Bytes) (z : ℤ) → (read_of l ≡ Number z) ↔ Numeral l z
+pub numeral_iff : (l : Bytes) (z : ℤ) → (read_of l ≡ Some z) ↔ Numeral l z
 numeral_iff l z = (read_words l z, words_read l z)
 
 -- ---- six columns
@@ -227,7 +225,7 @@ six_columns l z h (minus_digits k ds d some e) =
     )
 
 -- six bytes are read as a number exactly if it is from -99999 to 999999 and they are its field
-pub field_iff : (l : Bytes) (z : ℤ) → length l ≡ columns → (read_of l ≡ Number z) ↔ (InColumns z × (l ≡ field_of z))
+pub field_iff : (l : Bytes) (z : ℤ) → length l ≡ columns → (read_of l ≡ Some z) ↔ (InColumns z × (l ≡ field_of z))
 field_iff l z h = (λ e. six_columns l z h (read_words l z e), λ w. ap read_of w.1 ∙ read-written z w.0)
 
 -- so in the document's words: the field of a number is the six bytes that say it

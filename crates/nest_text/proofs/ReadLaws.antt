@@ -1,6 +1,6 @@
 -- The whole text: each way out of the reader.
 -- Assumes nothing.
-use mathlib.Core.Path.{◌≡◌, refl, sym, ap, subst, ◌∙◌}
+use mathlib.Core.Path.{◌≡◌, refl, sym, ap, ap₂, subst, ◌∙◌}
 use mathlib.Core.Bool.{Bool, true, false}
 use mathlib.Core.List.{List, [], flat_map}
 use Prim.Native.Nat.{ℕ, ◌+◌, ◌*◌, ◌-◌, ◌≤◌}
@@ -9,15 +9,19 @@ use borrow.Author.Tests.{ne_eqb}
 use lib.IntN.{ℤ, pos}
 use lib.ListN.{length, take, drop}
 use lib.Seq.{take-nil, drop-nil}
+use Rattle.integers.proofs.Lists.{split}
 use Rattle.nest.specs.declared.LoopNest.{LoopNest}
 use Rattle.nest.specs.Nest.{depth_of, count_of, padded, empty_nest, with_shape}
 use Rattle.nest.specs.Refusals.{holds, first_met, header_order, body_order, or_else, refusal}
 use Rattle.nest.proofs.Entries.{or_else-first, or_else-second, or_else_assoc, or_else-zero}
 use Rattle.nest.proofs.FirstMet.{behind-header}
 use Rattle.nest.proofs.Spans.{HeaderSpans, header_spans}
-use Rattle.nest_text.specs.declared.Reading.{Reading}
-use Rattle.nest_text.specs.declared.reader.Line.{Line}
-use Rattle.nest_text.specs.declared.reader.Body.{Body}
+use Rattle.nest_text.specs.Answered.{Reading, reading_of}
+use Rattle.std.proofs.Common.{Option, Some, None, Result}
+use Rattle.std.specs.Result.{IsErrAnd}
+use Rattle.nest.specs.declared.refusals.Refusal.{Refusal}
+use Rattle.nest.specs.Outcomes.{code}
+use Rattle.nest.proofs.Outcomes.{number_out, value_out}
 use Rattle.nest_text.specs.Fields.{Bytes, columns}
 use Rattle.nest_text.specs.Text.{at, numbers_of, behind, line_numbers, header_width, widths, is_headed, header_numbers}
 use Rattle.nest_text.specs.Text.{headed, header_of}
@@ -31,12 +35,16 @@ use Rattle.nest_text.proofs.LastLine.{line-inside, width-least, width-most, shap
 use Rattle.nest_text.proofs.BodyLaws.{answered, unanswered, filled-nest}
 
 -- the answer of the whole
-abbrev pub reading_of : Bytes → Reading
-reading_of bs = record { refusal = read_refusal bs; nest = read_nest bs }
+abbrev pub whole_reading : Bytes → Reading
+whole_reading bs = record { refusal = read_refusal bs; nest = read_nest bs }
 
 -- a refusal with its number
 abbrev pub refused_as : ℕ → Reading
 refused_as r = record { refusal = r; nest = empty_nest }
+
+-- the answer where a `?` hands a refusal on
+pub reading_out : (r : Result LoopNest Refusal) (e : Refusal) → IsErrAnd r (λ y. y ≡ e) → reading_of r ≡ refused_as (code e)
+reading_out r e h = ap₂ (λ (a : ℕ) (s : LoopNest). let x : Reading = record { refusal = a; nest = s } in x) (number_out r e h) (value_out r e h empty_nest)
 
 -- ---- the first of two answers
 
@@ -83,22 +91,22 @@ pub record Headed (bs : Bytes) (h : LoopNest) : Type 0 where
   pub accepted : first_met h header_order ≡ 0 → ◌≡◌ {A = Reading} (record { refusal = 0; nest = h }) (header_read bs)
 
 -- the answer for the lines behind line 1, where that says the shape of h
-abbrev pub BodyOf : Bytes → LoopNest → Body → Type 0
+abbrev pub BodyOf : Bytes → LoopNest → Option LoopNest → Type 0
 BodyOf bs h b = b ≡ body_read (depth_of h) (count_of h) h.cube (behind header_width bs)
 
--- the same as the code has it: the rest of the text, with the sizes
-pub body-behind : (bs : Bytes) (h : LoopNest) (b : Body) (n m : ℕ) → n ≡ depth_of h → m ≡ count_of h
-    → b ≡ body_read n m h.cube (take (length bs - (columns * header_width + 1)) (drop (columns * header_width + 1) bs)) → BodyOf bs h b
-body-behind bs h b n m p q e = e ∙ (rw (p, q, rest_part bs (columns * header_width + 1)) refl)
+-- the same as the code has it: the rest of the text
+pub body-behind : (bs : Bytes) (h : LoopNest) (b : Option LoopNest)
+    → b ≡ body_read (depth_of h) (count_of h) h.cube (take (length bs - (columns * header_width + 1)) (drop (columns * header_width + 1) bs)) → BodyOf bs h b
+body-behind bs h b e = e ∙ ap (body_read (depth_of h) (count_of h) h.cube) (rest_part bs (columns * header_width + 1))
 
 -- what is known once line 1 has passed: there is a rest, and each answer for it
 pub record Passed (bs : Bytes) (h : LoopNest) : Type 0 where
   pub room : columns * header_width + 1 ≤ length bs
   pub fits : HeaderSpans h
   pub start : h ≡ filled (depth_of h) (count_of h) h.cube []
-  pub malformed : (b : Body) → BodyOf bs h b → b.ok ≡ false → refused_as 1 ≡ reading_of bs
-  pub refused_with : (b : Body) → BodyOf bs h b → b.ok ≡ true → (r : ℕ) → r ≡ refusal b.nest → (r ≡ 0 → ⊥) → refused_as r ≡ reading_of bs
-  pub accepted : (b : Body) → BodyOf bs h b → b.ok ≡ true → refusal b.nest ≡ 0 → ◌≡◌ {A = Reading} (record { refusal = 0; nest = b.nest }) (reading_of bs)
+  pub malformed : BodyOf bs h None → refused_as 1 ≡ whole_reading bs
+  pub refused_with : (s : LoopNest) → BodyOf bs h (Some s) → (r : ℕ) → r ≡ refusal s → (r ≡ 0 → ⊥) → refused_as r ≡ whole_reading bs
+  pub accepted : (s : LoopNest) → BodyOf bs h (Some s) → refusal s ≡ 0 → ◌≡◌ {A = Reading} (record { refusal = 0; nest = s }) (whole_reading bs)
 
 module _ (bs : Bytes) where
   -- the form of the other lines; 5 to 13
@@ -139,12 +147,12 @@ module _ (bs : Bytes) where
   header-zero e = (or_else-zero (header_refusal bs) body_refusal (sym in_two ∙ e)).0
 
   -- ---- the whole
-  pub whole-refused : (r : ℕ) → read_refusal bs ≡ r → (r ≡ 0 → ⊥) → refused_as r ≡ reading_of bs
+  pub whole-refused : (r : ℕ) → read_refusal bs ≡ r → (r ≡ 0 → ⊥) → refused_as r ≡ whole_reading bs
   unfolding read_nest
   whole-refused r e h = rw (read_nest, e, ne_eqb r 0 h) refl
 
   -- the text accepted
-  pub whole-passed : read_refusal bs ≡ 0 → ◌≡◌ {A = Reading} (record { refusal = 0; nest = body_of bs }) (reading_of bs)
+  pub whole-passed : read_refusal bs ≡ 0 → ◌≡◌ {A = Reading} (record { refusal = 0; nest = body_of bs }) (whole_reading bs)
   unfolding read_nest
   whole-passed e = rw (read_nest, e) refl
 
@@ -156,26 +164,26 @@ module _ (bs : Bytes) where
   }
 
   -- ---- line 1 as the code reads it
-  module _ (l : Line) (read : l ≡ line_of header_width bs) where
-    -- a malformed line 1
-    pub line_refused : l.ok ≡ false → refused_as 1 ≡ header_read bs
-    line_refused o = header_refused 1 (header-malformed (header-one bs ∙ unanswered header_width bs l read o)) (λ e. absurd (omega arith))
+  -- a malformed line 1
+  pub line_refused : None ≡ line_of header_width bs → refused_as 1 ≡ header_read bs
+  line_refused read = header_refused 1 (header-malformed (header-one bs ∙ unanswered header_width bs read)) (λ e. absurd (omega arith))
 
+  module _ (line : List ℤ) (read : Some line ≡ line_of header_width bs) where
     -- the nest that is made of line 1's numbers
-    pub header_read_lem : l.ok ≡ true → (s h : LoopNest) → s ≡ empty_nest → h ≡ with_shape s (at l.numbers 0) (at l.numbers 1) (at l.numbers 2) → Headed bs h
-    header_read_lem o s h none made = headed_by h is (ap (λ (x : LoopNest). first_met x header_order) is ∙ sym (header_checked form))
+    pub header_read_lem : (s h : LoopNest) → s ≡ empty_nest → h ≡ with_shape s (at line 0) (at line 1) (at line 2) → Headed bs h
+    header_read_lem s h none made = headed_by h is (ap (λ (x : LoopNest). first_met x header_order) is ∙ sym (header_checked form))
       where
         form : is_headed bs ≡ true
-        form = header-one bs ∙ (answered header_width bs l read o).0
+        form = header-one bs ∙ (answered header_width bs line read).0
 
         zs : List ℤ
         zs = numbers_of header_width bs
 
-        row : (k : ℕ) → at l.numbers k ≡ at (header_numbers bs) k
-        row k = ap (λ (x : List ℤ). at x k) (answered header_width bs l read o).1 ∙ (at-padded max_fields zs k ∙ ap (λ (x : List ℤ). at x k) (sym (header-numbers bs form)))
+        row : (k : ℕ) → at line k ≡ at (header_numbers bs) k
+        row k = ap (λ (x : List ℤ). at x k) (answered header_width bs line read).1 ∙ (at-padded max_fields zs k ∙ ap (λ (x : List ℤ). at x k) (sym (header-numbers bs form)))
 
         is : h ≡ header_of bs
-        is = made ∙ (ap (λ (x : LoopNest). with_shape x (at l.numbers 0) (at l.numbers 1) (at l.numbers 2)) none ∙ (rw (row 0, row 1, row 2) (sym (header_shaped bs))))
+        is = made ∙ (ap (λ (x : LoopNest). with_shape x (at line 0) (at line 1) (at line 2)) none ∙ (rw (row 0, row 1, row 2) (sym (header_shaped bs))))
 
   -- ---- the lines behind line 1, where it passed
   module _ (none : header_refusal bs ≡ 0) where
@@ -252,46 +260,44 @@ module _ (bs : Bytes) where
     unfolding or_else
     rest_checked e = rest-refusal ∙ (rw e (sym (body_checked e)))
 
-    -- the flag by the test
-    body_choice : (b : Bool) → is_shaped bs ≡ b → (body_read n m c (rest_of bs)).ok ≡ b
-    unfolding body_read is_shaped
-    body_choice true e = rw (e, body_read) refl
-    body_choice false e = rw (e, body_read) refl
-
-    -- the nest of a rest in form
-    body-nest : is_shaped bs ≡ true → (body_read n m c (rest_of bs)).nest ≡ body_of bs
+    -- the answer for a rest in form
+    body-nest : is_shaped bs ≡ true → body_read n m c (rest_of bs) ≡ Some (body_of bs)
     unfolding body_read is_shaped body_of body_numbers
     body-nest e = rw (e, body_read) refl
 
-    -- by what the body's reader answered
-    module _ (b : Body) (read : b ≡ body_read n m c (behind header_width bs)) where
-      -- it was given the rest of the text
-      read-rest : b ≡ body_read n m c (rest_of bs)
-      read-rest = read ∙ ap (body_read n m c) (sym (rest-behind bs header-form))
+    -- and for another
+    body_none : is_shaped bs ≡ false → body_read n m c (rest_of bs) ≡ None
+    unfolding body_read is_shaped
+    body_none e = rw (e, body_read) refl
 
-      -- the flag is the test
-      form-is : b.ok ≡ is_shaped bs
-      form-is = ap (λ (x : Body). x.ok) read-rest ∙ body_choice (is_shaped bs) refl
+    -- the body's reader was given the rest of the text
+    read-rest : (b : Option LoopNest) → b ≡ body_read n m c (behind header_width bs) → b ≡ body_read n m c (rest_of bs)
+    read-rest b read = read ∙ ap (body_read n m c) (sym (rest-behind bs header-form))
 
-      -- 1 for a malformed rest
-      rest_unformed : b.ok ≡ false → refused_as 1 ≡ reading_of bs
-      rest_unformed o = whole-refused 1 (rest-malformed (sym form-is ∙ o)) (λ e. absurd (omega arith))
+    -- 1, where it answered nothing
+    rest_unformed : None ≡ body_read n m c (behind header_width bs) → refused_as 1 ≡ whole_reading bs
+    rest_unformed read = whole-refused 1 (rest-malformed (split (is_shaped bs)
+        (λ t. let q : None ≡ Some (body_of bs) = read-rest None read ∙ body-nest t in cc) (λ f. f))) (λ e. absurd (omega arith))
 
-      -- the nest that is read
-      nest-is : b.ok ≡ true → b.nest ≡ body_of bs
-      nest-is o = ap (λ (x : Body). x.nest) read-rest ∙ body-nest (sym form-is ∙ o)
+    -- by the nest that it answered
+    module _ (s : LoopNest) (read : Some s ≡ body_read n m c (behind header_width bs)) where
+      -- the rest is in form, and this is what it says
+      nest-is : (is_shaped bs ≡ true) × (s ≡ body_of bs)
+      nest-is = split (is_shaped bs)
+          (λ t. let q : Some s ≡ Some (body_of bs) = read-rest (Some s) read ∙ body-nest t in (t, cc))
+          (λ f. let q : Some s ≡ None = read-rest (Some s) read ∙ body_none f in cc)
 
       -- its first refusal is that of the text
-      number_is : b.ok ≡ true → refusal b.nest ≡ read_refusal bs
-      number_is o = ap refusal (nest-is o) ∙ sym (rest_checked (sym form-is ∙ o))
+      number_is : refusal s ≡ read_refusal bs
+      number_is = ap refusal nest-is.1 ∙ sym (rest_checked nest-is.0)
 
       -- 5 to 13
-      rest-refused : b.ok ≡ true → (r : ℕ) → r ≡ refusal b.nest → (r ≡ 0 → ⊥) → refused_as r ≡ reading_of bs
-      rest-refused o r e f = whole-refused r (sym (e ∙ number_is o)) f
+      rest-refused : (r : ℕ) → r ≡ refusal s → (r ≡ 0 → ⊥) → refused_as r ≡ whole_reading bs
+      rest-refused r e f = whole-refused r (sym (e ∙ number_is)) f
 
       -- accepted
-      rest-accepted : b.ok ≡ true → refusal b.nest ≡ 0 → ◌≡◌ {A = Reading} (record { refusal = 0; nest = b.nest }) (reading_of bs)
-      rest-accepted o e = ap (λ (x : LoopNest). record { refusal = 0; nest = x }) (nest-is o) ∙ whole-passed (sym (number_is o) ∙ e)
+      rest-accepted : refusal s ≡ 0 → ◌≡◌ {A = Reading} (record { refusal = 0; nest = s }) (whole_reading bs)
+      rest-accepted e = ap (λ (x : LoopNest). record { refusal = 0; nest = x }) nest-is.1 ∙ whole-passed (sym number_is ∙ e)
 
     -- all of it together
     passed-header : Passed bs (header_of bs)
@@ -312,7 +318,7 @@ module _ (bs : Bytes) where
     first-number = sym (ap (λ (x : Reading). x.refusal) read)
 
     -- line 1 is refused, and so is the text
-    pub first-refused : (first.refusal ≡ 0 → ⊥) → first ≡ reading_of bs
+    pub first-refused : (first.refusal ≡ 0 → ⊥) → first ≡ whole_reading bs
     first-refused h =
         read
         ∙ (sym (header_refused first.refusal first-number h)

@@ -19,7 +19,7 @@ use Rattle.nest.specs.Nest.{to_ℕ, part, depth_of, count_of, limit_at, limits_o
 use Rattle.nest.specs.Nest.{boundaries_of, weights_of, cleared, max_depth}
 use Rattle.nest.specs.Refusals.{first_met, header_order, refusal}
 use Rattle.nest.proofs.FirstMet.{accepted-header}
-use Rattle.nest_text.specs.declared.Reading.{Reading}
+use Rattle.nest_text.specs.Answered.{Reading}
 use Rattle.nest_text.specs.Fields.{columns, newline, least_number, greatest_number, Bytes, field_of}
 use Rattle.nest_text.specs.Text.{at, line_length, text_length}
 use Rattle.nest_text.specs.Text.{line, short_last, long_last, differ, last_of, lines_with, lines_of, text_with, text_of}

@@ -10,7 +10,7 @@ use Rattle.integers.proofs.Lists.{split}
 use Rattle.nest.specs.declared.LoopNest.{LoopNest}
 use Rattle.nest.specs.Nest.{empty_nest}
 use Rattle.nest.proofs.Answers.{answered_unique}
-use Rattle.nest_text.specs.declared.Reading.{Reading}
+use Rattle.nest_text.specs.Answered.{Reading}
 use Rattle.nest_text.specs.Fields.{Bytes}
 use Rattle.nest_text.specs.Text.{read_refusal, read_nest}
 use Rattle.nest_text.specs.Form.{read_order, ReadSays}

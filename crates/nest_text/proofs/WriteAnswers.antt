@@ -1,7 +1,7 @@
 -- The ways out of a call that writes bytes into a lent buffer (refused before it looks at the
 -- buffer, a short buffer, the bytes written), and what it leaves.
 -- Assumes nothing.
-use mathlib.Core.Path.{◌≡◌, refl, sym, ap, ap₂, ◌∙◌}
+use mathlib.Core.Path.{◌≡◌, refl, sym, ap, ap₂, subst, ◌∙◌}
 use mathlib.Core.Bool.{true, false}
 use mathlib.Core.List.{◌++◌}
 use Prim.Native.Nat.{ℕ, zero, suc, ◌+◌, ◌≤◌, ◌<◌}
@@ -12,7 +12,12 @@ use lib.Seq.{sets, sets-eq}
 use Rattle.nest.specs.Refusals.{or_else, short_buffer}
 use Rattle.nest.proofs.Entries.{or_else-first, or_else-second, or_else-zero, long_enough, too_short, same-table}
 use Rattle.nest.proofs.Entries.{made_table}
-use Rattle.nest_text.specs.declared.Writing.{Writing}
+use Rattle.std.proofs.Common.{Result}
+use Rattle.std.specs.Result.{IsErrAnd}
+use Rattle.nest.specs.declared.refusals.Refusal.{Refusal}
+use Rattle.nest.specs.Outcomes.{code}
+use Rattle.nest.proofs.Outcomes.{code-above, number_out, value_out}
+use Rattle.nest_text.specs.Answered.{Writing, writing_of}
 use Rattle.nest_text.specs.Fields.{Bytes}
 use Rattle.nest_text.specs.Text.{write_refusal, written_length, written, Puts}
 
@@ -30,6 +35,13 @@ module _ (number : ℕ) (bytes old : Bytes) where
   pub refused-first : (k : ℕ) → k ≡ number → (k ≡ 0 → ⊥) → Puts number bytes old (record { refusal = k; length = 0 }) old
   unfolding write_refusal
   refused-first k e h = refused k (e ∙ sym (or_else-first number (short_buffer (length bytes) (length old)) (λ z. h (e ∙ z)))) h
+
+  -- the same where a `?` hands the refusal on
+  pub refused_out : (r : Result ℕ Refusal) (e : Refusal) → IsErrAnd r (λ y. y ≡ e) → code e ≡ number → Puts number bytes old (writing_of r) old
+  refused_out r e h k =
+      let w : writing_of r ≡ record { refusal = code e; length = 0 } =
+      ap₂ (λ (a b : ℕ). let x : Writing = record { refusal = a; length = b } in x) (number_out r e h) (value_out r e h 0) in
+      subst (λ (x : Writing). Puts number bytes old x old) (sym w) (refused-first (code e) k (λ z. absurd (omega (arith, code-above e, z))))
 
   module _ (e : number ≡ 0) where
     -- the second, where there is none

@@ -4,16 +4,20 @@
 use mathlib.Core.Path.{◌≡◌, refl, sym, ap, subst, ◌∙◌}
 use mathlib.Core.List.{List, [], ◌∷◌, ◌++◌, flat_map, append_assoc}
 use Prim.Native.Nat.{ℕ, zero, suc, ◌+◌, ◌*◌, ◌-◌, ◌≤◌, ◌<◌}
+use native.Mathlib.Nat.{zero-add}
+use native.Mathlib.Numerals.{add-one}
 use native.Mathlib.Omega.{arith}
 use lib.IntN.{ℤ, pos, negsuc}
-use lib.ListN.{length, get_or, take, drop, set, replicate, length-append, length-replicate}
-use lib.Seq.{sets, length-sets, sets-eq}
+use lib.ListN.{length, get_or, take, drop, set, replicate, length-append, length-drop, length-replicate}
+use lib.Seq.{sets, length-sets, sets-eq, ext_get_or, get_or-take, get_or-drop, take-suc, length-take-le}
 use Rattle.integers.specs.Lists.{tab}
-use Rattle.integers.proofs.Lists.{flat_map-append, flat_map-tab-more, flat_map-length}
+use Rattle.integers.proofs.Lists.{flat_map-append, flat_map-one, flat_map-tab-more, flat_map-length}
 use Rattle.nest.specs.Nest.{part}
+use Rattle.nest.proofs.Padding.{part-whole}
+use Rattle.nest.proofs.Words.{part_at, part_length}
 use Rattle.nest_text.specs.Fields.{columns, space, Bytes, numeral_of, field_of, newline}
 use Rattle.nest_text.specs.Text.{line_length, limit_width, line}
-use Rattle.nest_text.specs.Stored.{Stored, InColumns}
+use Rattle.nest_text.specs.Stored.{Stored, InColumns, EachInColumns}
 use Rattle.nest_text.proofs.FieldLaws.{digits_short, within-neg, within-pos}
 
 -- ---- bytes stored
@@ -75,13 +79,35 @@ pub line-length : (g : ℕ → ℤ) (k : ℕ) → ((i : ℕ) → i < k → InCol
 unfolding line
 line-length g k h = length-append (flat_map field_of (tab g k)) (newline ∷ []) ∙ ap (λ n. n + 1) (fields_length g k h)
 
--- one more field behind i of them
-pub fields_more : {old out new : Bytes} {at end : ℕ} (xs : List ℤ) (from i : ℕ) → Stored old at (flat_map field_of (part xs from i)) out end
-    → InColumns (get_or xs (from + i) (pos 0)) → end + columns ≤ length out → new ≡ take end out ++ (field_of (get_or xs (from + i) (pos 0)) ++ drop (end + columns) out)
-    → Stored old at (flat_map field_of (part xs from (i + 1))) new (end + columns)
+-- part of an array is a part of its list
+pub part-taken : (xs : List ℤ) (from n : ℕ) → from + n ≤ length xs → part xs from n ≡ take n (drop from xs)
+part-taken xs from n h = ext_get_or (pos 0) (part xs from n) (take n (drop from xs))
+    (part_length xs from n ∙ sym (length-take-le n (drop from xs) (omega (arith, length-drop from xs))))
+    (λ i l. let b : i < n = omega (arith, l, part_length xs from n) in
+    part_at xs from n i b ∙ sym (get_or-take n (drop from xs) i (pos 0) b ∙ get_or-drop from xs i (pos 0)))
+
+-- numbers that have room in their columns, as a list
+pub listed_length : (zs : List ℤ) → EachInColumns zs 0 (length zs) → length (flat_map field_of zs) ≡ columns * length zs
 unfolding part
-fields_more {old} {out} {new} {at} {end} xs from i p h r e =
-    stored_as (sym (flat_map-tab-more field_of (λ k. get_or xs (from + k) (pos 0)) i)) (stored_more p (stored_field out new end (get_or xs (from + i) (pos 0)) h r e))
+listed_length zs h =
+    ap (λ (l : List ℤ). length (flat_map field_of l)) (sym (part-whole (length zs) zs refl))
+    ∙ fields_length (λ i. get_or zs (0 + i) (pos 0)) (length zs) h
+
+-- the first n numbers of an array that have room in their columns
+pub taken-columns : (xs : List ℤ) (n : ℕ) → n ≤ length xs → EachInColumns xs 0 n → EachInColumns (take n xs) 0 (length (take n xs))
+taken-columns xs n h each i l =
+    let b : i < n = omega (arith, l, length-take-le n xs h) in
+    rw (zero-add i, get_or-take n xs i (pos 0) b) (rw zero-add at (each i b))
+
+-- one more field behind i of them
+pub fields_more : {old out new : Bytes} {at end : ℕ} (xs : List ℤ) (i : ℕ) → i < length xs → Stored old at (flat_map field_of (take i xs)) out end
+    → InColumns (get_or xs i (pos 0)) → end + columns ≤ length out → new ≡ take end out ++ (field_of (get_or xs i (pos 0)) ++ drop (end + columns) out)
+    → Stored old at (flat_map field_of (take (i + 1) xs)) new (end + columns)
+fields_more {old} {out} {new} {at} {end} xs i l p h r e =
+    let z = get_or xs i (pos 0) in
+    let one_more : take (i + 1) xs ≡ take i xs ++ (z ∷ []) = rw (add-one i) (take-suc xs i (pos 0) l) in
+    stored_as (sym (ap (flat_map field_of) one_more ∙ (flat_map-append field_of (take i xs) (z ∷ []) ∙ ap (λ bs. flat_map field_of (take i xs) ++ bs) (flat_map-one field_of z))))
+    (stored_more p (stored_field out new end z h r e))
 
 -- byte 10 behind the fields of a line
 pub line-ends : {old out : Bytes} {at end : ℕ} (zs : List ℤ) → Stored old at (flat_map field_of zs) out end → Stored old at (line zs) (set out end 10) (end + 1)
@@ -103,6 +129,10 @@ pub line-cons : (z : ℤ) (zs : List ℤ) → field_of z ++ line zs ≡ line (z 
 unfolding line flat_map
 line-cons z zs = sym (append_assoc (field_of z) (flat_map field_of zs) (newline ∷ []))
 
+-- the numbers of the line of loop k
+abbrev pub limits : List ℤ → List ℤ → ℕ → List ℤ
+limits lower upper k = get_or lower k (pos 0) ∷ get_or upper k (pos 0) ∷ []
+
 -- ---- a line of two numbers a and b, where the machine holds a' and b'
 pub pair_fits : {a b a' b' : ℤ} → a' ≡ a → b' ≡ b → InColumns a → InColumns b → (i : ℕ) → i < 2 → InColumns (get_or (a' ∷ b' ∷ []) (0 + i) (pos 0))
 pair_fits p q h k zero l = subst InColumns (sym p) h
@@ -110,8 +140,7 @@ pair_fits p q h k (suc zero) l = subst InColumns (sym q) k
 pair_fits p q h k (suc (suc i)) l = absurd (omega arith)
 
 -- the line is that of a and b
-pub pair_line : {a b a' b' : ℤ} → a' ≡ a → b' ≡ b → line (part (a' ∷ b' ∷ []) 0 2) ≡ line (a ∷ b ∷ [])
-unfolding part tab
+pub pair_line : {a b a' b' : ℤ} → a' ≡ a → b' ≡ b → line (a' ∷ b' ∷ []) ≡ line (a ∷ b ∷ [])
 pair_line {a} {b} {a'} {b'} p q = ap (λ (x : ℤ). line (x ∷ b' ∷ [])) p ∙ ap (λ (x : ℤ). line (a ∷ x ∷ [])) q
 
 -- and as long as is said

@@ -2,11 +2,8 @@
 -- Assumes nothing.
 use Rattle.std.specs.Prelude.{Bool, true, ◌&&◌, cond, List, [], ◌∷◌, ◌++◌, ℕ, zero, suc, ◌+◌, ◌*◌, ◌-◌, ◌/◌, ◌%◌, leb}
 use Rattle.std.specs.Prelude.{ltb, eqb, ℤ, pos, negsuc, neg_ℤ, length, get_or, drop, replicate}
+use Rattle.std.specs.Prelude.{Option, Some, None}
 use Rattle.std.specs.Int.Signed.{le_z}
-use Rattle.nest_text.specs.declared.fields.Field.{Field}
-use Rattle.nest_text.specs.declared.fields.Field.TheVariants.{Number, Malformed}
-use Rattle.nest_text.specs.declared.fields.Run.{Run}
-use Rattle.nest_text.specs.declared.fields.Run.TheVariants.{Value, NoDigits}
 
 -- a text, or a part of one: each byte is its number
 abbrev pub Bytes : Type 0
@@ -74,25 +71,25 @@ abbrev pub no_leading_zero : Bytes → Bool
 no_leading_zero l = cond (eqb (get_or l 0 0) zero_digit) (eqb (length l) 1) true
 
 -- what a run of digits says: its value, where there is a digit, no leading zero and no other byte
-unfoldable pub digits_of : Bytes → Run
-digits_of l = cond ((ltb 0 (length l) && no_leading_zero l) && all_digits l) (Value (value_of 0 l)) NoDigits
+unfoldable pub digits_of : Bytes → Option ℕ
+digits_of l = cond ((ltb 0 (length l) && no_leading_zero l) && all_digits l) (Some (value_of 0 l)) None
 
 -- digits with no minus before them
-abbrev pub plain : Run → Field
-plain (Value n) = Number (pos n)
-plain NoDigits = Malformed
+abbrev pub plain : Option ℕ → Option ℤ
+plain (Some n) = Some (pos n)
+plain None = None
 
 -- digits behind a minus; minus zero is no number
-abbrev pub negative : Run → Field
-negative (Value n) = cond (eqb n 0) Malformed (Number (neg_ℤ (pos n)))
-negative NoDigits = Malformed
+abbrev pub negative : Option ℕ → Option ℤ
+negative (Some n) = cond (eqb n 0) None (Some (neg_ℤ (pos n)))
+negative None = None
 
 -- what stands behind the spaces: an optional minus, digits
-unfoldable pub signed_of : Bytes → Field
+unfoldable pub signed_of : Bytes → Option ℤ
 signed_of l = cond (eqb (get_or l 0 0) minus) (negative (digits_of (drop 1 l))) (plain (digits_of l))
 
 -- what the bytes of a field say
-unfoldable pub read_of : Bytes → Field
+unfoldable pub read_of : Bytes → Option ℤ
 read_of l = signed_of (drop (blanks_of l) l)
 
 -- ---- writing

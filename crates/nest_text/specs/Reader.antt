@@ -2,15 +2,13 @@
 -- it and the nest as it is filled line by line; and how many boundary values the writer writes.
 -- Assumes nothing.
 use Rattle.std.specs.Prelude.{true, false, ℕ, ◌+◌, ◌*◌, ◌-◌, eqb, leb, ltb, ℤ, pos, length, get_or, take, drop}
-use Rattle.std.specs.Prelude.{replicate}
+use Rattle.std.specs.Prelude.{Option, Some, None}
 use mathlib.Core.List.{List, [], ◌++◌, map, flat_map}
 use Rattle.nest.specs.declared.LoopNest.{LoopNest}
 use Rattle.nest.specs.Nest.{padded, empty_nest, max_depth, max_dependences}
 use Rattle.nest.specs.Nest.{with_limits, with_times, with_dependences, with_boundaries, with_weights}
 use Rattle.nest.specs.Refusals.{first_met, header_order, or_else}
-use Rattle.nest_text.specs.declared.Reading.{Reading}
-use Rattle.nest_text.specs.declared.reader.Line.{Line}
-use Rattle.nest_text.specs.declared.reader.Body.{Body}
+use Rattle.nest_text.specs.Answered.{Reading}
 use Rattle.nest_text.specs.Fields.{Bytes}
 use Rattle.nest_text.specs.Text.{at, differ, body_length, is_line, numbers_of, line_numbers, short_width, long_width}
 use Rattle.nest_text.specs.Text.{shapes, fits, first_fitting, is_headed, header_of, boundaries_in, weights_in}
@@ -20,11 +18,11 @@ use Rattle.nest_text.specs.Text.{nest_from, malformed_unless}
 abbrev pub max_fields : ℕ
 max_fields = long_width max_dependences
 
--- a line of k fields: whether it is in form, and then its numbers, with 0 in every other place
-unfoldable pub line_of : ℕ → Bytes → Line
+-- a line of k fields, where it is in form: its numbers, with 0 in every other place
+unfoldable pub line_of : ℕ → Bytes → Option (List ℤ)
 line_of k bs = elim (is_line k bs) [
-  | true ↦ record { ok = true; numbers = padded max_fields (numbers_of k bs) }
-  | false ↦ record { ok = false; numbers = replicate max_fields (pos 0) }
+  | true ↦ Some (padded max_fields (numbers_of k bs))
+  | false ↦ None
 ]
 
 -- line 1's form; 2, 3, 4
@@ -102,9 +100,9 @@ filled n m c ls =
 unfoldable pub value_count : List ℤ → ℕ
 value_count zs = elim (differ zs) [ true ↦ length zs | false ↦ 1 ]
 
--- the lines behind line 1: whether all are in form, and then their nest
-unfoldable pub body_read : ℕ → ℕ → ℤ → Bytes → Body
+-- the lines behind line 1, where all are in form: their nest
+unfoldable pub body_read : ℕ → ℕ → ℤ → Bytes → Option LoopNest
 body_read n m c bs = elim (fits (shapes n m) bs) [
-  | true ↦ record { ok = true; nest = nest_from n m c (line_numbers (first_fitting (shapes n m) bs) bs) }
-  | false ↦ record { ok = false; nest = empty_nest }
+  | true ↦ Some (nest_from n m c (line_numbers (first_fitting (shapes n m) bs) bs))
+  | false ↦ None
 ]

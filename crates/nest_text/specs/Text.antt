@@ -2,7 +2,7 @@
 -- written for a nest, and what a text is read as, with its refusals in the document's order.
 -- Assumes nothing.
 use Rattle.std.specs.Prelude.{◌≡◌, Bool, true, false, not, ◌&&◌, ℕ, ◌+◌, ◌*◌, ◌-◌, ◌<◌, eqb, ℤ, pos, length, get_or}
-use Rattle.std.specs.Prelude.{take, drop, replicate}
+use Rattle.std.specs.Prelude.{take, drop, replicate, Option, Some, None}
 use mathlib.Core.List.{List, [], ◌∷◌, ◌++◌, map, flat_map}
 use Rattle.integers.specs.Lists.{any, first, tab}
 use Rattle.integers.specs.Vector.{eq_z}
@@ -11,10 +11,7 @@ use Rattle.nest.specs.Nest.{Limit, depth_of, count_of, limits_of, time_of, depen
 use Rattle.nest.specs.Nest.{nest_of, empty_nest, max_depth, max_dependences}
 use Rattle.nest.specs.Refusals.{first_met, header_order, body_order, refusal, Order, nest_order}
 use Rattle.nest.specs.Refusals.{or_else, short_buffer, table_after}
-use Rattle.nest_text.specs.declared.Reading.{Reading}
-use Rattle.nest_text.specs.declared.Writing.{Writing}
-use Rattle.nest_text.specs.declared.fields.Field.{Field}
-use Rattle.nest_text.specs.declared.fields.Field.TheVariants.{Number, Malformed}
+use Rattle.nest_text.specs.Answered.{Reading, Writing}
 use Rattle.nest_text.specs.Fields.{Bytes, columns, newline, field_of, read_of}
 
 -- ---- writing
@@ -84,17 +81,17 @@ text_length n m k = line_length header_width + body_length n m k
 -- ---- lines read
 
 -- the field holds no number
-abbrev pub is_malformed : Field → Bool
-is_malformed (Number z) = false
-is_malformed Malformed = true
+abbrev pub is_malformed : Option ℤ → Bool
+is_malformed (Some z) = false
+is_malformed None = true
 
 -- the number that it holds
-abbrev pub number_of : Field → ℤ
-number_of (Number z) = z
-number_of Malformed = pos 0
+abbrev pub number_of : Option ℤ → ℤ
+number_of (Some z) = z
+number_of None = pos 0
 
 -- field i of a line: its six columns, read as a number
-abbrev pub field_at : Bytes → ℕ → Field
+abbrev pub field_at : Bytes → ℕ → Option ℤ
 field_at bs i = read_of (take columns (drop (columns * i) bs))
 
 -- the bytes begin with a line of k fields: each is a number, and byte 10 follows

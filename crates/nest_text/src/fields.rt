@@ -1,9 +1,8 @@
 // A number in six columns, read and written: spaces, an optional minus, digits; no leading zero and
 // no minus zero.
-ghost use Rattle.std.specs.Prelude.{◌≡◌, ◌&&◌, [], ◌++◌, ◌+◌, ◌<◌, ◌≤◌, ◌%◌, ltb, pos, nat_abs, length, take, drop};
-ghost use Rattle.std.specs.Prelude.{replicate};
-ghost use Rattle.std.specs.Int.Signed.{lt_z};
-ghost use Rattle.nest_text.specs.Fields.{columns, space, zero_digit, seven_digits};
+ghost use Rattle.std.specs.Prelude.{◌≡◌, ◌&&◌, if◌then◌else◌, ◌++◌, [], ◌+◌, ◌-◌, ◌<◌, ◌≤◌, ◌%◌, ltb, nat_abs};
+ghost use Rattle.std.specs.Prelude.{length, take, drop};
+ghost use Rattle.nest_text.specs.Fields.{columns, zero_digit, seven_digits, is_digit};
 ghost use Rattle.nest_text.specs.Fields.{no_leading_zero, blanks_of, digits_of, signed_of, read_of};
 ghost use Rattle.nest_text.specs.Fields.{digits_to, field_of};
 ghost use Rattle.nest_text.specs.Stored.{InColumns};
@@ -11,178 +10,109 @@ ghost use Rattle.nest_text.specs.Stored.{InColumns};
 use crate::COLUMNS;
 
 // the byte before a number that has fewer digits than columns
-const SPACE: u8 = 32;
+const SPACE: u8 = b' ';
 
 // the byte before the digits of a negative number
-const MINUS: u8 = 45;
+const MINUS: u8 = b'-';
 
 // the byte of the digit 0; those of 1 to 9 follow it
-const ZERO: u8 = 48;
-
-// the byte of the digit 9
-const NINE: u8 = 57;
-
-// What a field says.
-#[derive(Clone, Copy)]
-pub enum Field {
-    Number(i64),
-    Malformed,
-}
-
-// What a run of digits says.
-#[derive(Clone, Copy)]
-pub enum Run {
-    Value(u32),
-    NoDigits,
-}
+const ZERO: u8 = b'0';
 
 // How many spaces come first.
 pub fn blanks(f: &[u8]) -> usize
     ensures { (result ≡ blanks_of f.now) × (result ≤ length f.now) }
 {
-    let mut at = 0;
-    while at < f.len() {
-        if f[at] != SPACE {
-            return at;
-        }
-        at += 1;
-    }
-    at
+    f.iter().take_while(|b| **b == SPACE).count()
 }
 
 // The digit that a byte says.
-pub fn digit(b: u8) -> u32
-    requires { zero_digit ≤ b }
-    ensures { result + zero_digit ≡ b }
+pub fn digit(b: u8) -> Option<u32>
+    ensures { result ≡ (if is_digit b then Some (b - zero_digit) else None) }
 {
-    (b - ZERO) as u32
+    char::from(b).to_digit(10)
 }
 
 // Some byte stands there, and the first is no leading zero.
 pub fn well_led(d: &[u8]) -> bool
     ensures { result ≡ (ltb 0 (length d.now) && no_leading_zero d.now) }
 {
-    if d.len() == 0 {
-        return false;
+    match d {
+        [] => false,
+        [first, ..] => *first != ZERO || d.len() == 1,
     }
-    if d[0] != ZERO {
-        return true;
-    }
-    d.len() == 1
 }
 
 // The number that a run of digits says.
-pub fn digits(d: &[u8]) -> Run
+pub fn digits(d: &[u8]) -> Option<u32>
     requires { length d.now ≤ columns }
     ensures { result ≡ digits_of d.now }
 {
     if !well_led(d) {
-        return Run::NoDigits;
+        return None;
     }
-    let n = d.len();
-    let mut value: u32 = 0;
-    for k in 0..n {
-        let b = d[k];
-        if b < ZERO {
-            return Run::NoDigits;
-        }
-        if NINE < b {
-            return Run::NoDigits;
-        }
-        value = value * 10 + digit(b);
+    let mut value = 0;
+    for b in d {
+        value = value * 10 + digit(*b)?;
     }
-    Run::Value(value)
+    Some(value)
 }
 
 // The number that digits with an optional minus before them say; minus zero is none.
-pub fn signed(d: &[u8]) -> Field
+pub fn signed(d: &[u8]) -> Option<i64>
     requires { length d.now ≤ columns }
     ensures { result ≡ signed_of d.now }
 {
-    if d.len() == 0 {
-        return Field::Malformed;
+    if d.first() != Some(&MINUS) {
+        return digits(d).map(i64::from);
     }
-    if d[0] == MINUS {
-        let Run::Value(n) = digits(&d[1..]) else {
-            return Field::Malformed;
-        };
-        if n == 0 {
-            return Field::Malformed;
-        }
-        Field::Number(0 - n as i64)
-    } else {
-        let Run::Value(n) = digits(d) else {
-            return Field::Malformed;
-        };
-        Field::Number(n as i64)
+    let n = digits(&d[1..])?;
+    if n == 0 {
+        return None;
     }
+    Some(-i64::from(n))
 }
 
 // The number that a field says.
-pub fn read_field(f: &[u8]) -> Field
+pub fn read_field(f: &[u8]) -> Option<i64>
     requires { length f.now ≤ columns }
     ensures { result ≡ read_of f.now }
 {
-    let at = blanks(f);
-    signed(&f[at..])
+    signed(&f[blanks(f)..])
 }
 
 // The number at column `from` of a line: the field is handed on as a part of the line.
-pub fn field_at(line: &[u8], from: usize) -> Field
+pub fn field_at(line: &[u8], from: usize) -> Option<i64>
     requires { from + columns ≤ length line.now }
     ensures { result ≡ read_of (take columns (drop from line.now)) }
 {
-    let to = from + COLUMNS;
-    read_field(&line[from..to])
+    read_field(&line[from..from + COLUMNS])
 }
 
 // The byte of a number's last digit.
-pub fn digit_byte(n: u32) -> u8
+// Kept: char::from_digit answers an Option of a char, which is no plainer as a byte.
+pub fn digit_byte(n: u64) -> u8
     ensures { result ≡ zero_digit + n % 10 }
 {
     ZERO + (n % 10) as u8
 }
 
 // Writes the digits of n at the end of a field, and answers where they begin.
-pub fn put_digits(out: &mut [u8], n: u32) -> usize
+pub fn put_digits(out: &mut [u8], n: u64) -> usize
     requires { (length out.old ≡ columns) × (n < seven_digits) }
     ensures { (out.new ≡ take result out.old ++ digits_to columns n [])
         × ((result < columns) × (result + length (digits_to columns n []) ≡ columns)) }
 {
-    let mut at = out.len();
     let mut rest = n;
-    while 10 <= rest {
-        at -= 1;
+    // Kept: the column is what is answered, so that a plainer loop would have to count it beside.
+    for at in (1..out.len()).rev() {
         out[at] = digit_byte(rest);
-        rest = rest / 10;
+        if rest < 10 {
+            return at;
+        }
+        rest /= 10;
     }
-    at -= 1;
-    out[at] = digit_byte(rest);
-    at
-}
-
-// Writes a space in every place.
-pub fn put_spaces(out: &mut [u8])
-    ensures { out.new ≡ replicate (length out.old) space }
-{
-    for k in 0..out.len() {
-        out[k] = SPACE;
-    }
-}
-
-// A number without its sign.
-pub fn magnitude(z: i64) -> u32
-    requires { InColumns z }
-    ensures { (result ≡ nat_abs z) × (result < seven_digits) }
-{
-    if z < 0 { (0 - z) as u32 } else { z as u32 }
-}
-
-// Whether a minus stands before the number.
-pub fn is_negative(z: i64) -> bool
-    ensures { result ≡ lt_z z (pos 0) }
-{
-    z < 0
+    out[0] = digit_byte(rest);
+    0
 }
 
 // Writes a number as a field: spaces, its digits at the end, and a minus before them.
@@ -190,9 +120,9 @@ pub fn write_field(out: &mut [u8], z: i64)
     requires { (length out.old ≡ columns) × InColumns z }
     ensures { out.new ≡ field_of z }
 {
-    put_spaces(out);
-    let at = put_digits(out, magnitude(z));
-    if is_negative(z) {
+    out.fill(SPACE);
+    let at = put_digits(out, z.unsigned_abs());
+    if z.is_negative() {
         out[at - 1] = MINUS;
     }
 }
@@ -203,6 +133,5 @@ pub fn write_at(line: &mut [u8], from: usize, z: i64)
     ensures { line.new
         ≡ take from line.old ++ (field_of z ++ drop (from + columns) line.old) }
 {
-    let to = from + COLUMNS;
-    write_field(&mut line[from..to], z);
+    write_field(&mut line[from..from + COLUMNS], z);
 }

@@ -1,6 +1,6 @@
 -- Serves the code's inner contracts alone: the limits of tables and of their numbers. They are this
 -- crate's own, since it knows of no loop nest; src/lib.rt has the first two. Assumes nothing.
-use Rattle.std.specs.Prelude.{ℕ, ◌+◌, ◌*◌, ◌≤◌, List, ℤ, length}
+use Rattle.std.specs.Prelude.{ℕ}
 
 -- how many numbers a row has
 abbrev pub components : ℕ
@@ -17,11 +17,3 @@ max_entry = 1000000000
 -- how large a number of a point may be, either side of 0
 abbrev pub max_coordinate : ℕ
 max_coordinate = 1000
-
--- a table has a row i
-abbrev pub HasRow : List ℤ → ℕ → Type 0
-HasRow t i = i * components + components ≤ length t
-
--- a table has so many rows
-abbrev pub HasRows : List ℤ → ℕ → Type 0
-HasRows t count = count * components ≤ length t

@@ -1,18 +1,19 @@
 -- Flags for the numbers of a list, one number more at a time, and the running count of the flags. Assumes nothing.
 use mathlib.Core.Path.{◌≡◌, refl, sym, ap, ◌∙◌}
 use mathlib.Core.Bool.{false, ◌||◌, or-false}
-use mathlib.Core.List.{List, [], ◌∷◌, ◌++◌}
+use mathlib.Core.List.{List, [], ◌∷◌, ◌++◌, map}
 use Prim.Native.Nat.{ℕ, ◌+◌, ◌<◌, ◌≤◌}
 use native.Mathlib.Numerals.{add-one}
 use native.Mathlib.Omega.{arith}
 use borrow.Author.Tests.{eqb-true, eqb-false}
 use lib.Dec.{eqb}
-use lib.ListN.{length, get_or, take, drop, set, length-set, length-append, length-drop, get_or-append}
-use lib.Seq.{take-suc, get_or-set_same, get_or-set_other, length-take-le}
+use lib.ListN.{length, get_or, take, set, length-set}
+use lib.Seq.{take-suc, get_or-set_same, get_or-set_other}
 use Rattle.integers.specs.Lists.{any, tab, one_if, total}
 use Rattle.integers.proofs.Lists.{any_append, any-one, or_right, split, length-tab, get_or-tab, tab-list, tab-same}
 use Rattle.integers.proofs.Sums.{one_yes, one_no, count-total, count-standing}
 use Rattle.nest.specs.Nest.{max_iterations}
+use Rattle.partition.proofs.Passed.{map_same}
 use Rattle.partition.specs.KeySteps.{Counted, Cleared, flags, standing, ordinals}
 
 -- ---- flags
@@ -65,44 +66,23 @@ flags-standing xs n v h =
     ap total (tab-same (λ u. get_or (flags xs n) u 0) f v (λ u l. get_or-tab f n u 0 (omega (arith, l, h)))) ∙ sym (count-total (λ u. any (eqb u) xs) v)
 
 -- ---- the three loops one after the other
-module _ (numbers table : List ℕ) (many range : ℕ) (C : Counted numbers many range) (room : range ≤ length table) where
-  abbrev xs : List ℕ
-  xs = take many numbers
+module _ (numbers : List ℕ) (range : ℕ) (C : Counted numbers range) (marked : List ℕ) (m : marked ≡ flags numbers range) where
+  long : length marked ≡ range
+  long = ap (λ (t : List ℕ). length t) m ∙ length-tab (λ u. one_if (any (eqb u) numbers)) range
 
-  module _ (set : List ℕ) (marked : set ≡ flags xs (length table)) where
-    -- the table is as long as it was
-    pub marked_length : length set ≡ length table
-    marked_length = ap (λ (t : List ℕ). length t) marked ∙ length-tab (λ u. one_if (any (eqb u) xs)) (length table)
+  below_standing : (v : ℕ) → v ≤ range → sum_before marked v ≡ standing numbers v
+  below_standing v h = ap (λ (t : List ℕ). sum_before t v) m ∙ flags-standing numbers range v h
 
-    sum_is : (v : ℕ) → v ≤ range → sum_before set v ≡ standing xs v
-    sum_is v h = ap (λ (t : List ℕ). sum_before t v) marked ∙ flags-standing xs (length table) v (omega (arith, h, room))
+  -- what `running` asks
+  pub sums-few : (v : ℕ) → v ≤ length marked → sum_before marked v ≤ max_iterations
+  sums-few v h = omega (arith, below_standing v (omega (arith, h, long)), count-standing numbers v, C.few)
 
-    -- what `running` asks
-    pub sums-few : (v : ℕ) → v ≤ range → sum_before set v ≤ max_iterations
-    sums-few v h = omega (arith, sum_is v h, count-standing xs v, length-take-le many numbers C.room, C.few)
+  -- the sum of all flags
+  pub all-standing : sum_before marked (length marked) ≡ standing numbers range
+  all-standing = ap (sum_before marked) long ∙ below_standing range (omega arith)
 
-    module _ (sums : List ℕ) (counted : sums ≡ tab (sum_before set) range ++ drop range set) where
-      -- it is as long still
-      sums-length : length sums ≡ length table
-      sums-length =
-          ap (λ (t : List ℕ). length t) counted ∙ length-append (tab (sum_before set) range) (drop range set) ∙ omega (arith, length-tab (sum_before set) range, length-drop range set, marked_length, room)
-
-      -- what `look_up` asks
-      pub numbers-counted : Counted numbers many (length sums)
-      numbers-counted = record { room = C.room; few = C.few; small = λ k h. omega (arith, C.small k h, sums-length, room) }
-
-      -- the entry at the place of number k is its ordinal
-      ordinal_is : (k : ℕ) → k < many → get_or sums (get_or numbers k 0) 0 ≡ standing xs (get_or numbers k 0)
-      ordinal_is k h =
-          let x = get_or numbers k 0 in
-          let l = C.small k h in
-          ap (λ (t : List ℕ). get_or t x 0) counted ∙ get_or-append (tab (sum_before set) range) (drop range set) 0 x (omega (arith, l, length-tab (sum_before set) range))
-          ∙ get_or-tab (sum_before set) range x 0 l ∙ sum_is x (omega (arith, l))
-
-      -- so they make the ordinals
-      pub ordinals-made : (new : List ℕ) (r : ℕ) → r ≡ sum_before set range → new ≡ tab (λ k. get_or sums (get_or numbers k 0) 0) many ++ drop many numbers
-          → (r ≡ standing xs range) × (new ≡ ordinals numbers many)
-      ordinals-made new r e w = (
-        e ∙ sum_is range (omega arith),
-        w ∙ ap (λ (t : List ℕ). t ++ drop many numbers) (tab-same (λ k. get_or sums (get_or numbers k 0) 0) (λ k. standing xs (get_or numbers k 0)) many ordinal_is),
-      )
+  -- the entry at the place of a number is its ordinal
+  pub ordinals-made : map (λ x. get_or (tab (sum_before marked) (length marked)) x 0) numbers ≡ ordinals numbers
+  ordinals-made =
+      map_same 0 (λ x. get_or (tab (sum_before marked) (length marked)) x 0) (standing numbers) numbers
+      (λ k h. let x = get_or numbers k 0 in let l = C.small k h in get_or-tab (sum_before marked) (length marked) x 0 (omega (arith, l, long)) ∙ below_standing x (omega (arith, l)))

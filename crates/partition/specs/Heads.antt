@@ -4,6 +4,8 @@
 -- answer depends on it. Assumes nothing.
 use Rattle.std.specs.Prelude.{true, false, List, [], ◌∷◌, ◌++◌, map, ℕ, zero, suc, ◌<◌, ◌≤◌, ltb, ℤ, pos, nat_abs}
 use Rattle.std.specs.Prelude.{length, get_or}
+use denote.Struct.Props as known
+use mathlib.Core.HLevel.{×_prop, Unit-prop}
 use Rattle.integers.specs.Vector.{Vector, AllWithin}
 use Rattle.nest.specs.Nest.{padded, max_limit}
 use Rattle.numbering.specs.Limits.{components}
@@ -28,3 +30,10 @@ pub record PointAt (keys : List ℤ) (n k : ℕ) : Type 0 where
   pub iteration : k < length keys
   pub key_small : nat_abs (get_or keys k (pos 0)) ≤ max_key
   pub within : AllWithin max_limit (digits n (get_or keys k (pos 0)))
+
+-- of these facts there is one proof at most, as a ghost field asks
+pub within-prop : (A : ℕ) (v : Vector) → IsProp (AllWithin A v)
+within-prop A [] = Unit-prop
+within-prop A (x ∷ v) = ×_prop (hlevel known.props) (within-prop A v)
+
+pub ruleset props = (within-prop, known.props)

@@ -1,7 +1,7 @@
 -- To how many other blocks a block sends, and to how many at most (document 02, U3; 000, theorem
 -- 2). Nothing here asks for a class: dependences that leave theirs count too.
 -- Assumes nothing.
-use Rattle.std.specs.Prelude.{◌≡◌, Bool, true, false, List, ℕ, ◌-◌, ◌*◌, ◌<◌, eqb, length, get_or}
+use Rattle.std.specs.Prelude.{◌≡◌, Bool, true, false, List, ℕ, ◌-◌, ◌*◌, ◌<◌, eqb, length, get_or, Result}
 use Rattle.std.proofs.Math.Option.{none, some}
 use Rattle.integers.specs.Lists.{any, tab, count}
 use Rattle.nest.specs.declared.LoopNest.{LoopNest}
@@ -9,7 +9,8 @@ use Rattle.nest.specs.Nest.{count_of}
 use Rattle.nest.specs.Points.{points_of}
 use Rattle.nest.specs.Sources.{source_rank}
 use Rattle.nest.specs.Refusals.{refusal}
-use Rattle.partition.specs.declared.receivers.Receivers.{Receivers}
+use Rattle.nest.specs.declared.refusals.Refusal.{Refusal}
+use Rattle.nest.specs.Outcomes.{number_in, value_in}
 use Rattle.partition.specs.Partition.{chosen_of}
 
 -- ---- block a sends to block b, in a table that has the block of each iteration
@@ -55,6 +56,16 @@ unfoldable pub most_receivers : LoopNest → ℕ
 most_receivers s = 2 * count_of s - chosen_of s
 
 -- ---- what a call of `most_receivers` promises
+
+-- an answer: the number of the first refusal with 0, or 0 with the number of other blocks to which
+-- a block sends at most
+pub record Receivers : Type 0 where
+  pub refusal : ℕ
+  pub most : ℕ
+
+-- the same of what the call answers
+abbrev pub receivers_of : Result ℕ Refusal → Receivers
+receivers_of answer = record { refusal = number_in answer; most = value_in 0 answer }
 
 -- the most for an accepted nest, 0 for a refused one
 unfoldable pub bound_of : LoopNest → ℕ

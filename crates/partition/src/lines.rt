@@ -1,15 +1,40 @@
 // Projection lines of the index points in loop order, found by the points' keys: the iteration
 // before one on its line is the source along the line's vector.
-ghost use Rattle.std.specs.Prelude.{◌≡◌, ◌++◌, ℕ, ◌<◌, ◌≤◌, length, get_or, take, drop};
-ghost use Rattle.integers.specs.Lists.{tab};
+ghost use Rattle.std.specs.Prelude.{◌≡◌, ◌++◌, map, ℕ, ◌<◌, ◌≤◌, length, get_or, take, drop};
 ghost use Rattle.integers.specs.Vector.{AllWithin};
-ghost use Rattle.nest.specs.Nest.{max_depth, max_limit, max_iterations};
+ghost use Rattle.nest.specs.Nest.{max_limit, max_iterations};
 ghost use Rattle.sources.specs.Keys.{source_in, Searchable};
-ghost use Rattle.partition.specs.Heads.{heads_to, lines_to, points_by, PointAt};
-ghost use Rattle.numbering.specs.Limits.{HasRows};
-ghost use Rattle.numbering.specs.Tables.{rows};
+ghost use Rattle.numbering.specs.Tables.{RowsWithin};
+ghost use Rattle.partition.specs.GroupRows.{LinesOf};
+ghost use Rattle.partition.specs.Heads.{heads_to, lines_to, points_by, props};
 
-use nest::LoopNest;
+use numbering::Row;
+use sources::Sources;
+
+// Projection lines: the keys of the index points, of `depth` indices each, and the first iteration
+// of each line.
+#[derive(Clone, Copy)]
+pub struct Lines<'a> {
+    pub keys: &'a [i64],
+    pub depth: usize,
+    pub heads: &'a [u16],
+    pub ghost lines: { LinesOf keys.now depth heads.now } by { Prim.hlevel props },
+}
+
+impl<'a> Lines<'a> {
+    // The index points of the first iterations into the rows of a table.
+    pub fn points_into(&self, points: &mut [Row])
+        requires { length points.old ≡ length self.now.heads.now }
+        ensures { (points.new ≡ points_by self.now.keys.now self.now.depth self.now.heads.now)
+            × RowsWithin max_limit points.new }
+    {
+        // Kept: heads by index, since of what is written through a zip a proof learns nothing.
+        for (l, point) in points.iter_mut().enumerate() {
+            let head = usize::from(self.heads[l]);
+            *point = sources::vector_at(self.keys[head], self.depth);
+        }
+    }
+}
 
 // The number of each iteration's line into a table, where the key of an iteration is `distance`
 // above that of the one before it on its line; and the first iteration of each line into another.
@@ -25,46 +50,32 @@ pub fn lines_into(keys: &[i64], distance: i64, heads: &mut [u16], lines: &mut [u
         let many = length keys.now in
         lines.new ≡ lines_to before many ++ drop many lines.old) }
 {
-    let many = keys.len();
-    let mut distances = [0i64; LoopNest::MAX_DEPENDENCES];
-    distances[0] = distance;
-    let mut cursors = [0usize; LoopNest::MAX_DEPENDENCES];
-    let mut count: usize = 0;
-    for k in 0..many {
-        let j = sources::next_source(keys, k, &distances, 0, &mut cursors);
-        let line = numbering::number_at(lines, j, k, count);
-        heads[count] = k as u16;
-        count = numbering::one_more(line, count);
-        lines[k] = line as u16;
+    let distances = [distance];
+    let mut sources = Sources::new(keys, &distances);
+    let mut count = 0;
+    // Kept: k is stored itself, and the table of lines is read where it is written.
+    for k in 0..keys.len() {
+        lines[k] = match sources.source(0) {
+            Some(j) if j < k => lines[j],
+            _ => {
+                let line = count as u16;
+                heads[count] = k as u16;
+                count += 1;
+                line
+            }
+        };
+        sources.advance();
     }
     count
 }
 
-// The index points of some iterations, by their keys, into the first rows of a table: n components
-// each, and zeros behind.
-pub fn points_into(keys: &[i64], n: usize, heads: &[u16], count: usize, points: &mut [i64])
-    requires n_le_max_depth { (n ≤ max_depth) × (length keys.now ≤ max_iterations) × (count ≤ max_iterations)
-        × (count ≤ length heads.now) × HasRows points.old count × AllWithin max_limit points.old }
-    requires by_index { (l : ℕ) → l < count → PointAt keys.now n (get_or heads.now l 0) }
-    ensures { (rows points.new count
-        ≡ points_by keys.now n (take count heads.now))
-        × AllWithin max_limit points.new × (length points.new ≡ length points.old) }
+// Each entry of a table replaced by the number that it leads to.
+pub fn spread(numbers: &[u16], table: &mut [u16])
+    requires { (length numbers.now ≤ max_iterations)
+        × ((k : ℕ) → k < length table.old → get_or table.old k 0 < length numbers.now) }
+    ensures { table.new ≡ map (λ l. get_or numbers.now l 0) table.old }
 {
-    for l in 0..count {
-        let k = heads[l] as usize;
-        let j = sources::vector_at(keys[k], n);
-        numbering::put_row(points, l, j);
-    }
-}
-
-// Each of some entries of a table replaced by the number that it leads to.
-pub fn spread(numbers: &[u16], table: &mut [u16], count: usize)
-    requires { (count ≤ length table.old) × (length numbers.now ≤ max_iterations)
-        × ((k : ℕ) → k < count → get_or table.old k 0 < length numbers.now) }
-    ensures { (let to : ℕ → ℕ = λ k. get_or numbers.now (get_or table.old k 0) 0 in
-        table.new ≡ tab to count ++ drop count table.old) }
-{
-    for k in 0..count {
-        table[k] = numbers[table[k] as usize];
+    for entry in table.iter_mut() {
+        *entry = numbers[usize::from(*entry)];
     }
 }

@@ -2,29 +2,17 @@
 // U3; 000, theorem 2).
 ghost use Rattle.std.specs.Prelude.{◌≡◌, ◌-◌, ◌*◌, ◌≤◌};
 ghost use Rattle.nest.specs.Nest.{max_dependences};
-ghost use Rattle.nest.specs.Refusals.{refusal};
 ghost use Rattle.partition.specs.Partition.{chosen_of};
-ghost use Rattle.partition.specs.Sending.{Bounds};
+ghost use Rattle.partition.specs.Sending.{Bounds, receivers_of};
 
 use crate::inputs::{basis_of, size_of};
-use nest::LoopNest;
-
-// What `most_receivers` answers: the number of the first refusal with 0, or 0 with the number of
-// other blocks to which a block sends at most.
-#[derive(Clone, Copy)]
-pub struct Receivers {
-    pub refusal: u8,
-    pub most: usize,
-}
+use nest::{AcceptedNest, LoopNest, Refusal};
 
 // β of an accepted nest: how many vectors are chosen, the grouping vector among them.
-fn chosen_count(s: LoopNest) -> usize
-    requires { refusal s ≡ 0 }
-    ensures { result ≡ chosen_of s }
+fn chosen_count(s: &AcceptedNest) -> usize
+    ensures { result ≡ chosen_of s.now.nest }
 {
-    let r = size_of(s);
-    let f = basis_of(s, r);
-    f.count
+    basis_of(s, size_of(s)).count
 }
 
 // 2m - β. Of the m dependences β are chosen, and along each of those a block sends to one other
@@ -36,22 +24,11 @@ fn bound(m: usize, chosen: usize) -> usize
     2 * m - chosen
 }
 
-// To how many other blocks a block of a nest's plan sends at most, 2m - β; or the number of the
-// first refusal, 2 to 13, with 0.
-pub fn most_receivers(s: LoopNest) -> Receivers
-    ensures { Bounds s result }
+// To how many other blocks a block of a nest's plan sends at most, 2m - β; or the nest's first
+// refusal, 2 to 13.
+pub fn most_receivers(s: LoopNest) -> Result<usize, Refusal>
+    ensures { Bounds s (receivers_of result) }
 {
-    let refusal = nest::check(s);
-    if refusal != 0 {
-        return Receivers {
-            refusal: refusal,
-            most: 0,
-        };
-    }
-    let m = nest::to_size(s.count);
-    let chosen = chosen_count(s);
-    Receivers {
-        refusal: 0,
-        most: bound(m, chosen),
-    }
+    let accepted = nest::accept(s)?;
+    Ok(bound(accepted.count(), chosen_count(&accepted)))
 }

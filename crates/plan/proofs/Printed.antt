@@ -14,7 +14,7 @@ use Rattle.integers.proofs.Lists.{split}
 use Rattle.nest.specs.Refusals.{short_buffer}
 use Rattle.nest.proofs.PointLaws.{few-points}
 use Rattle.nest.proofs.Entries.{or_else-first}
-use Rattle.nest_text.specs.declared.Writing.{Writing}
+use Rattle.nest_text.specs.Answered.{Writing}
 use Rattle.nest_text.specs.Fields.{Bytes}
 use Rattle.nest_text.specs.Stored.{Stored}
 use Rattle.nest_text.specs.Text.{line, read_refusal, read_nest, write_refusal}

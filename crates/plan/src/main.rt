@@ -32,8 +32,7 @@ fn put_number(out: &mut [u8], x: u8) -> usize
     requires { 7 ≤ length out.old }
     ensures { (result ≡ 7) × Stored out.old 0 (line (pos x ∷ [])) out.new result }
 {
-    let numbers = [x as i64];
-    nest_text::put_line(out, 0, &numbers, 0, 1)
+    nest_text::put_line(out, 0, &[i64::from(x)])
 }
 
 // Writes what is printed for a text into a buffer that has room for the longest listing; answers
@@ -43,11 +42,10 @@ fn put_listing(text: &[u8], out: &mut [u8]) -> usize
     ensures stored { Stored out.old 0 (listing text.now) out.new result }
     ensures prefix_len { IsPrefixLen result out.new }
 {
-    let answer = planner::list(text, out);
-    if answer.refusal != 0 {
-        return put_number(out, answer.refusal);
+    match planner::list(text, out) {
+        Ok(length) => length,
+        Err(refusal) => put_number(out, refusal.into()),
     }
-    answer.length
 }
 
 // Reads until the buffer is full or the input ends; answers how many bytes that is. They are the
@@ -58,6 +56,7 @@ fn read_full<R: Read>(input: &mut R, buffer: &mut [u8]) -> io::Result<usize>
         (λ text. take n buffer.new ≡ take (length buffer.new) text)) }
 {
     let mut filled = 0;
+    // Kept: std's `read_exact` says nothing of an input that ends early; `read_to_end` allocates.
     while filled < buffer.len() {
         let more = input.read(&mut buffer[filled..])?;
         if more == 0 {

@@ -1,46 +1,46 @@
 -- The partition's table of the blocks' groups is one that the mapping reads; and what the called functions ensure, as the plan's parts. Assumes nothing.
 use mathlib.Core.Path.{◌≡◌, refl, sym, ap, ap₂, subst, ◌∙◌}
 use mathlib.Core.List.{List, [], ◌∷◌, ◌++◌, reverse}
-use Prim.Native.Nat.{ℕ, zero, suc, ◌+◌, ◌-◌, ◌*◌, ◌^◌, ◌<◌, ◌≤◌}
+use Prim.Native.Nat.{ℕ, zero, suc, ◌+◌, ◌-◌, ◌^◌, ◌<◌, ◌≤◌}
 use native.Mathlib.Omega.{arith}
+use Rattle.std.proofs.lemmas.List.{get_or-take}
 use lib.Dec.{eqb}
-use lib.IntN.{ℤ, pos, nat_abs}
+use lib.IntN.{ℤ, pos}
 use lib.ListN.{length, get_or, take, drop, length-append}
 use Rattle.integers.specs.Lists.{tab, count, firsts, total}
 use Rattle.integers.specs.Vector.{Vector}
 use Rattle.integers.proofs.Lists.{tab-same, tab-list}
-use Rattle.integers.proofs.Vector.{get_or-within}
 use Rattle.nest.specs.declared.LoopNest.{LoopNest}
-use Rattle.nest.specs.Nest.{part, padded, count_of, max_depth, max_cube}
+use Rattle.nest.specs.Nest.{padded, count_of, max_depth, max_cube}
 use Rattle.nest.specs.Points.{points_of}
 use Rattle.nest.specs.Refusals.{refusal}
 use Rattle.nest.proofs.Accepted.{depth_is}
-use Rattle.nest.proofs.Words.{part_at}
 use Rattle.grouping.specs.Grouping.{Group}
 use Rattle.partition.specs.Partition.{no_group, step_count, block_count, block_groups, chosen_of}
 use Rattle.grouping.specs.Basis.{pick, Fill}
-use Rattle.numbering.specs.Limits.{components}
 use Rattle.numbering.specs.Tables.{row}
 use Rattle.partition.specs.GroupRows.{GroupRow, GroupTable}
 use Rattle.partition.proofs.Theorems.{chosen-bound}
 use Rattle.mapping.specs.Mapping.{order_in, in_order, next_turn, processors_of, processor_count, is_message, message_count}
-use Rattle.mapping.specs.GroupNumbers.{Laid, RowsInSpan, column_of, values_in, number_at}
+use Rattle.mapping.specs.GroupNumbers.{Laid, RowsInSpan, column_of, values_of as row_values}
 use Rattle.mapping.proofs.Deals.{turn_below, turn_next, turn-first}
 use Rattle.mapping.proofs.Theorems.{processors-length, table_below, table-processors, table-messages}
 use Rattle.sequential.specs.Sequential.{sequential, loop, rule_of, values_of}
-use Rattle.planner.specs.declared.Planning.{Planning}
+use Rattle.planner.specs.Plan.{Planning}
 use Rattle.planner.specs.Plan.{plan_answer}
 
 -- ---- the table of groups
 
--- a row is so many places of the table
-row-part : (rows : List ℤ) (k : ℕ) → row rows k ≡ part rows (k * components) components
-unfolding part tab
-row-part rows k = ap (λ (a : ℕ). get_or rows a (pos 0) ∷ drop 1 (row rows k)) (omega arith)
+-- the first four numbers of a row
+abbrev quad : Vector → Vector
+quad v = get_or v 0 (pos 0) ∷ get_or v 1 (pos 0) ∷ get_or v 2 (pos 0) ∷ get_or v 3 (pos 0) ∷ []
 
--- the numbers that the mapping reads are those of the row
-number_is : (rows : List ℤ) (k j : ℕ) → j < components → number_at rows j k ≡ get_or (row rows k) j (pos 0)
-number_is rows k j h = sym (ap (λ (v : Vector). get_or v j (pos 0)) (row-part rows k) ∙ part_at rows (k * components) components j h)
+quad_at : (v : Vector) (i : ℕ) → i < max_depth → get_or v i (pos 0) ≡ get_or (quad v) i (pos 0)
+quad_at v zero h = refl
+quad_at v (suc zero) h = refl
+quad_at v (suc (suc zero)) h = refl
+quad_at v (suc (suc (suc zero))) h = refl
+quad_at v (suc (suc (suc (suc i)))) h = absurd (omega arith)
 
 -- numbers read from the second on, and the first one last
 turned : (x : ℤ) (v : Vector) → tab (λ j. get_or (x ∷ v) (next_turn (suc (length v)) j) (pos 0)) (suc (length v)) ≡ v ++ (x ∷ [])
@@ -60,33 +60,35 @@ along-padded (suc (suc (suc zero))) x y z h f = refl
 along-padded (suc (suc (suc (suc n)))) x y z h f = absurd (omega arith)
 
 -- the values of a row are those of its group
-values_are : (rows : List ℤ) (k count : ℕ) (g : Group) → count < max_depth → GroupRow count g (row rows k) → values_in rows k ≡ in_order g
-unfolding values_in column_of order_in
-values_are rows k count g h r =
-    tab-same (λ j. number_at rows (next_turn max_depth j) k) (λ j. get_or (row rows k) (next_turn max_depth j) (pos 0)) max_depth (λ j l. number_is rows k (next_turn max_depth j) (turn_below max_depth j l))
-    ∙ turned (get_or (row rows k) 0 (pos 0)) (drop 1 (row rows k))
-    ∙ ap₂ (λ (v : Vector) (c : ℤ). v ++ (c ∷ []))
-    (sym (along-padded count (get_or (row rows k) 1 (pos 0)) (get_or (row rows k) 2 (pos 0)) (get_or (row rows k) 3 (pos 0)) (omega arith) r.fill) ∙ ap (λ (l : List ℤ). padded (max_depth - 1) (reverse l)) r.along_is)
+values_are : (v : Vector) (count : ℕ) (g : Group) → count < max_depth → GroupRow count g v → row_values v ≡ in_order g
+unfolding row_values column_of order_in
+values_are v count g h r =
+    tab-same (λ j. get_or v (next_turn max_depth j) (pos 0)) (λ j. get_or (quad v) (next_turn max_depth j) (pos 0)) max_depth
+    (λ j l. quad_at v (next_turn max_depth j) (turn_below max_depth j l))
+    ∙ turned (get_or v 0 (pos 0)) (drop 1 (quad v))
+    ∙ ap₂ (λ (w : Vector) (c : ℤ). w ++ (c ∷ []))
+    (sym (along-padded count (get_or v 1 (pos 0)) (get_or v 2 (pos 0)) (get_or v 3 (pos 0)) (omega arith) r.fill) ∙ ap (λ (l : List ℤ). padded (max_depth - 1) (reverse l)) r.along_is)
     r.class_is
 
-module _ (s : LoopNest) (ok : refusal s ≡ 0) (rows : List ℤ) (T : GroupTable (chosen_of s) (block_groups s) rows) (h : block_count s * 4 ≤ length rows) where
+-- the rows in front of a table of groups
+pub front_table : (k n : ℕ) (gs : List Group) (table : List Vector) → GroupTable k gs table → n ≡ length gs → GroupTable k gs (take n table)
+front_table k n gs table T e = λ c h. subst (GroupRow k (get_or gs c no_group)) (sym (get_or-take n table c [] (omega (arith, e, h)))) (T c h)
+
+module _ (s : LoopNest) (ok : refusal s ≡ 0) (rows : List Vector) (T : GroupTable (chosen_of s) (block_groups s) rows) where
   -- fewer vectors are chosen than there may be loops
   few : chosen_of s < max_depth
   few = omega (arith, chosen-bound s ok, (depth_is s ok).1)
 
   -- there is a row for each block
-  pub has_rows : (n : ℕ) → n ≡ block_count s → RowsInSpan rows n
+  pub has_rows : (n : ℕ) → n ≡ block_count s → n ≤ length rows → RowsInSpan rows n
   unfolding block_count
-  has_rows n e = record {
-    room = omega (arith, h, e);
-    sized = λ k j l b. subst (λ (z : ℤ). nat_abs z ≤ 1000000000) (sym (number_is rows k j b)) (get_or-within 1000000000 (row rows k) j (T k (omega (arith, l, e))).within);
-  }
+  has_rows n e h = record { room = h; sized = λ k l. (T k (omega (arith, l, e))).within }
 
   -- the table holds the groups
-  pub laid : Laid (block_groups s) rows
-  laid = record {
-    has_rows = has_rows (length (block_groups s)) (unfold block_count in refl);
-    laid = λ k l j b. ap (λ (v : Vector). get_or v j (pos 0)) (values_are rows k (chosen_of s) (get_or (block_groups s) k no_group) few (T k l));
+  pub laid : block_count s ≤ length rows → Laid (block_groups s) rows
+  laid h = record {
+    has_rows = has_rows (length (block_groups s)) (unfold block_count in refl) (unfold block_count in h);
+    laid = λ k l j b. ap (λ (v : Vector). get_or v j (pos 0)) (values_are (row rows k) (chosen_of s) (get_or (block_groups s) k no_group) few (T k l));
   }
 
 -- ---- a table that starts with the processors

@@ -13,7 +13,6 @@ use mir.Facts.{to_z_pos}
 use Rattle.integers.proofs.Linear.{ints}
 use Rattle.integers.specs.Lists.{tab}
 use Rattle.integers.proofs.Lists.{tab-list}
-use Rattle.nest.specs.Nest.{part}
 use Rattle.nest_text.specs.Fields.{Bytes}
 use Rattle.nest_text.specs.Text.{line}
 use Rattle.nest_text.specs.Stored.{Stored, InColumns, EachInColumns}
@@ -60,11 +59,8 @@ module _ (xs : List ℕ) (n : ℕ) (e : length xs ≡ n) (h : (i : ℕ) → i < 
       subst InColumns q (small-columns (get_or xs i 0) (h i l))
 
   -- what is stored is their line
-  pub counts-stored : {ys : List ℤ} {old new : Bytes} {at end : ℕ} → ys ≡ map pos xs → Stored old at (line (part ys 0 n)) new end → Stored old at (line (map pos xs)) new end
-  unfolding part
-  counts-stored {ys} p =
-      let q : part ys 0 n ≡ ys = tab-list (λ i. get_or ys (0 + i) (pos 0)) ys (pos 0) n (ap length p ∙ length-map xs pos ∙ e) (λ i l. ap (λ k. get_or ys k (pos 0)) (zero-add i)) in
-      stored_as (ap line (q ∙ p))
+  pub counts-stored : {ys : List ℤ} {old new : Bytes} {at end : ℕ} → ys ≡ map pos xs → Stored old at (line ys) new end → Stored old at (line (map pos xs)) new end
+  counts-stored {ys} p = stored_as (ap line p)
 
   -- six bytes for each number, and one
   pub counts-length : length (line (map pos xs)) ≡ 6 * n + 1

@@ -10,9 +10,8 @@ use Rattle.integers.specs.Lists.{tab}
 use Rattle.integers.proofs.Lists.{tab-same}
 use Rattle.nest.specs.declared.LoopNest.{LoopNest}
 use Rattle.nest.specs.Points.{points_of}
-use Rattle.nest.specs.Refusals.{refusal, no_room}
+use Rattle.nest.specs.Refusals.{refusal}
 use Rattle.nest.proofs.PointLaws.{few-points}
-use Rattle.nest.proofs.Entries.{or_else-second, none_short, made_table}
 use Rattle.nest_text.specs.Fields.{Bytes}
 use Rattle.nest_text.specs.Text.{line}
 use Rattle.nest_text.specs.Stored.{Stored}
@@ -23,12 +22,12 @@ use Rattle.partition.proofs.Theorems.{blocks-length, step_few}
 use Rattle.mapping.specs.Mapping.{processors_of}
 use Rattle.mapping.proofs.Theorems.{processors-length}
 use Rattle.sequential.specs.Sequential.{values_of}
-use Rattle.planner.specs.declared.Planning.{Planning}
-use Rattle.planner.specs.Plan.{plan_refusal, plan_answer, counts_of, counts_in, tables_in, Plans}
+use Rattle.planner.specs.Plan.{Planning}
+use Rattle.planner.specs.Plan.{plan_answer, counts_of, counts_in}
 use Rattle.planner.specs.Listing.{row_of}
 use Rattle.planner.specs.Listing.{plan_lines, plan_text}
 use Rattle.planner.proofs.LineLaws.{lines-behind, nth_small, counts-length}
-use Rattle.planner.proofs.PlanLaws.{number, values_length, plan-number}
+use Rattle.planner.proofs.PlanLaws.{values_length}
 use Rattle.planner.proofs.Sizes.{counts-small}
 
 -- a table that starts with n entries has them at its first places
@@ -53,43 +52,15 @@ pub record Tabled (s : LoopNest) (n : ℕ) (r : Planning) (a b c d : List ℕ) :
   pub room : {old mid : Bytes} {end : ℕ} → 31 * (n + 1) ≤ length old → Stored old 0 (line (map pos (counts_in r))) mid end → end + 31 * n ≤ length mid
   pub stored : {old mid new : Bytes} {end last : ℕ} → Stored old 0 (line (map pos (counts_in r))) mid end → Stored mid end (flat_map line (tab (row_of a b c d) n)) new last → new ≡ sets old 0 (plan_text s)
 
-module _ (s : LoopNest) (ok : refusal s ≡ 0) (n : ℕ) (count : n ≡ length (points_of s)) (a b c d : List ℕ) (la : length a ≡ 4096) (lb : length b ≡ 4096) (lc : length c ≡ 4096) (ld : length d ≡ 4096)
-    (r : Planning) (a' b' c' d' : List ℕ) (P : Plans s (tables_in a b c d) r (tables_in a' b' c' d')) where
-  -- 4096 entries are enough for every accepted nest
-  none : number s a b c d ≡ 0
-  unfolding plan_refusal
-  none =
-      let h = few-points s ok in
-      let m = length (points_of s) in
-      or_else-second (refusal s) (no_room m (length a) (length b) (length c) (length d)) ok
-      ∙ none_short m (length a) (length b) (length c) (length d) (omega arith) (omega arith) (omega arith) (omega arith)
-
-  -- so the answer has the counts
-  made : r ≡ plan_answer s 0
-  made = P.0 ∙ ap (plan_answer s) none
-
-  zero : r.refusal ≡ 0
-  zero = ap (λ (x : Planning). x.refusal) made ∙ plan-number s 0
-
+module _ (s : LoopNest) (ok : refusal s ≡ 0) (n : ℕ) (count : n ≡ length (points_of s)) (a b c d : List ℕ) (r : Planning) (a' b' c' d' : List ℕ)
+    (made : r ≡ plan_answer s 0) (steps_are : a' ≡ steps_of s ++ drop n a) (blocks_are : b' ≡ blocks_of s ++ drop n b) (processors_are : c' ≡ processors_of s ++ drop n c)
+    (values_are : d' ≡ values_of s ++ drop n d) where
   counts_are : counts_in r ≡ counts_of s
   counts_are = ap counts_in made ∙ answer-counts s
 
   counts_fit : (i : ℕ) → i < 5 → get_or (counts_in r) i 0 < 1000000
   unfolding counts_of
   counts_fit i h = subst (λ (l : List ℕ). get_or l i 0 < 1000000) (sym counts_are) (nth_small (counts_of s) (counts-small s ok) i h)
-
-  -- and each table starts with what is planned
-  steps_are : a' ≡ steps_of s ++ drop n a
-  steps_are = P.1.0 ∙ made_table r.refusal n (steps_of s) a zero (steps-length s ∙ sym count)
-
-  blocks_are : b' ≡ blocks_of s ++ drop n b
-  blocks_are = P.1.1.0 ∙ made_table r.refusal n (blocks_of s) b zero (blocks-length s ok ∙ sym count)
-
-  processors_are : c' ≡ processors_of s ++ drop n c
-  processors_are = P.1.1.1.0 ∙ made_table r.refusal n (processors_of s) c zero (processors-length s ∙ sym count)
-
-  values_are : d' ≡ values_of s ++ drop n d
-  values_are = P.1.1.1.1 ∙ made_table r.refusal n (values_of s) d zero (values_length s ∙ sym count)
 
   -- each has an entry for each iteration
   tables_long : (n ≤ length a') × (n ≤ length b') × (n ≤ length c') × (n ≤ length d')

@@ -19,7 +19,7 @@ use Rattle.nest.proofs.Outermost.{outer-number, outer-refusal, inner-accepted, a
 use Rattle.partition.proofs.Outermost.{outer-steps, outer-step-count, outer-blocks, outer_block_count}
 use Rattle.mapping.proofs.Outermost.{outer-processors, outer-processor-count, outer-messages}
 use Rattle.sequential.proofs.Outermost.{outer-values}
-use Rattle.planner.specs.declared.Planning.{Planning}
+use Rattle.planner.specs.Plan.{Planning}
 use Rattle.planner.specs.Plan.{counts_of, plan_refusal, refused_with, plan_answer, SamePlan, Tables, tables_refusal, Plans}
 
 -- ---- the plan

@@ -16,7 +16,14 @@ use Rattle.mapping.specs.Mapping.{processors_of}
 use Rattle.mapping.proofs.Theorems.{processors-length}
 use Rattle.sequential.specs.Sequential.{sequential, rule_of, values_of}
 use Rattle.sequential.proofs.LoopLaws.{loop-length}
-use Rattle.planner.specs.declared.Planning.{Planning}
+use Rattle.std.specs.Prelude.{Result}
+use Rattle.std.specs.Result.{IsErrAnd}
+use Rattle.std.proofs.lemmas.Result.{err_from_is_err_and}
+use Rattle.nest.specs.declared.refusals.Refusal.{Refusal}
+use Rattle.nest.specs.Outcomes.{code}
+use Rattle.planner.specs.declared.Counts.{Counts}
+use Rattle.planner.specs.Answered.{planning_of}
+use Rattle.planner.specs.Plan.{Planning}
 use Rattle.planner.specs.Plan.{plan_refusal, refused_with, plan_answer, Tables, tables_in, tables_refusal, Plans}
 
 -- each iteration has a value
@@ -35,6 +42,10 @@ pub plan-number : (s : LoopNest) (k : ℕ) → (plan_answer s k).refusal ≡ k
 unfolding plan_answer
 plan-number s zero = refl
 plan-number s (suc k) = rw (plan_answer, ne_eqb (suc k) 0 (λ q. absurd (omega arith))) refl
+
+-- the refusal that a `?` hands on
+pub planning-out : (r : Result Counts Refusal) (e : Refusal) → IsErrAnd r (λ y. y ≡ e) → planning_of r ≡ refused_with (code e)
+planning-out r e h = let p = err_from_is_err_and r h in rw (p.1, p.2) refl
 
 module _ (s : LoopNest) (a b c d : List ℕ) where
   -- the tables that are lent

@@ -8,7 +8,7 @@ use Rattle.nest.specs.Nest.{max_iterations}
 use Rattle.nest.specs.Points.{points_of}
 use Rattle.nest.specs.Refusals.{Order}
 use Rattle.nest_text.specs.Fields.{Bytes}
-use Rattle.nest_text.specs.declared.Writing.{Writing}
+use Rattle.nest_text.specs.Answered.{Writing}
 use Rattle.nest_text.specs.Text.{line_length, line, read_refusal, read_nest, Puts}
 use Rattle.nest_text.specs.Form.{read_order}
 use Rattle.partition.specs.Partition.{steps_of, blocks_of}

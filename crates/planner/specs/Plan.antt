@@ -8,7 +8,16 @@ use Rattle.nest.specs.Refusals.{refusal, or_else, no_room, OneShort, table_after
 use Rattle.partition.specs.Partition.{steps_of, step_count, blocks_of, block_count}
 use Rattle.mapping.specs.Mapping.{processors_of, processor_count, message_count}
 use Rattle.sequential.specs.Sequential.{values_of}
-use Rattle.planner.specs.declared.Planning.{Planning}
+
+-- what `plan` answers: the number of the first refusal with every count 0, or 0 with the counts
+pub record Planning : Type 0 where
+  pub refusal : ℕ
+  pub iterations : ℕ
+  pub steps : ℕ
+  pub blocks : ℕ
+  -- processors that hold an iteration
+  pub processors : ℕ
+  pub messages : ℕ
 
 -- iterations, steps, blocks, processors that hold an iteration, messages
 unfoldable pub counts_of : LoopNest → List ℕ

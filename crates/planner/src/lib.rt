@@ -7,21 +7,21 @@ mod lines;
 ghost use Rattle.std.specs.Prelude.{◌≡◌, ◌++◌, ◌≤◌, ◌+◌, ◌*◌, length, drop};
 ghost use Rattle.std.proofs.lemmas.List.Edits.{sets};
 ghost use Rattle.nest.specs.Points.{points_of};
-ghost use Rattle.nest.specs.Refusals.{refusal};
 ghost use Rattle.sources.specs.Keys.{keys_of};
 ghost use Rattle.partition.specs.Partition.{steps_of, blocks_of, block_count};
 ghost use Rattle.mapping.specs.Mapping.{processors_of};
 ghost use Rattle.sequential.specs.Sequential.{values_of};
 ghost use Rattle.planner.specs.Listing.{row_bytes, plan_text, Lists};
-ghost use Rattle.planner.specs.Plan.{refused_with, plan_answer, tables_in, Plans};
+ghost use Rattle.nest_text.specs.Answered.{writing_of};
+ghost use Rattle.planner.specs.Plan.{plan_answer, tables_in, Plans};
+ghost use Rattle.planner.specs.Answered.{made_of, planning_of};
 
-use nest::{LoopNest, SHORT_BUFFER};
-use nest_text::Writing;
+use nest::{AcceptedNest, LoopNest, Refusal};
+use sources::KeyedNest;
 
-// What `plan` answers: the number of the first refusal with every count 0, or 0 with the counts.
-#[derive(Clone, Copy)]
-pub struct Planning {
-    pub refusal: u8,
+// The counts of a plan.
+#[derive(Clone, Copy, Debug, PartialEq, Eq)]
+pub struct Counts {
     pub iterations: usize,
     pub steps: usize,
     pub blocks: usize,
@@ -30,65 +30,49 @@ pub struct Planning {
     pub messages: usize,
 }
 
-// The answer to a refused call.
-fn refused(refusal: u8) -> Planning
-    ensures { result ≡ refused_with refusal }
-{
-    Planning {
-        refusal: refusal,
-        iterations: 0,
-        steps: 0,
-        blocks: 0,
-        processors: 0,
-        messages: 0,
-    }
-}
-
 // The blocks and the processors of the iterations of an accepted nest, from the keys of its index
 // points, into two tables. Answers how many blocks there are.
-fn place_blocks(s: LoopNest, keys: &[i64], blocks: &mut [u16], processors: &mut [u8]) -> usize
-    requires { (refusal s ≡ 0) × (keys.now ≡ keys_of s) × (length (points_of s) ≤ length blocks.old)
-        × (length (points_of s) ≤ length processors.old) }
-    ensures value { result ≡ block_count s }
-    ensures blocks_after { blocks.new ≡ blocks_of s ++ drop (length (points_of s)) blocks.old }
-    ensures processors_after { processors.new ≡ processors_of s ++ drop (length (points_of s)) processors.old }
+fn place_blocks(s: &KeyedNest, blocks: &mut [u16], processors: &mut [u8]) -> usize
+    requires { (s.now.nest.now.iterations ≤ length blocks.old) × (s.now.nest.now.iterations ≤ length processors.old) }
+    ensures value { result ≡ block_count s.now.nest.now.nest }
+    ensures blocks_after { blocks.new
+        ≡ blocks_of s.now.nest.now.nest ++ drop s.now.nest.now.iterations blocks.old }
+    ensures processors_after { processors.new
+        ≡ processors_of s.now.nest.now.nest ++ drop s.now.nest.now.iterations processors.old }
 {
-    let mut groups = [0i64; LoopNest::MAX_ITERATIONS * numbering::COMPONENTS];
-    let count = partition::blocks_into(s, keys, &mut groups, blocks);
-    let cube = nest::to_size(s.cube);
-    mapping::processors_into(&groups, count, cube, blocks, keys.len(), processors);
+    let mut groups = [[0; numbering::COMPONENTS]; LoopNest::MAX_ITERATIONS];
+    let count = partition::blocks_into(s, &mut groups, blocks);
+    let blocks = &blocks[..s.nest.iterations];
+    mapping::processors_into(&groups[..count], s.nest.cube(), blocks, processors);
     count
 }
 
-// The plan of an accepted nest of so many iterations, into four tables.
+// The plan of an accepted nest, into four tables.
 fn make(
-    s: LoopNest,
-    iterations: usize,
+    s: &AcceptedNest,
     steps: &mut [u32],
     blocks: &mut [u16],
     processors: &mut [u8],
     values: &mut [u16],
-) -> Planning
-    requires { (refusal s ≡ 0) × (iterations ≡ length (points_of s)) × (iterations ≤ length steps.old)
-        × (iterations ≤ length blocks.old) × (iterations ≤ length processors.old)
-        × (iterations ≤ length values.old) }
-    ensures value { result ≡ plan_answer s 0 }
-    ensures steps_after { steps.new ≡ steps_of s ++ drop iterations steps.old }
-    ensures blocks_after { blocks.new ≡ blocks_of s ++ drop iterations blocks.old }
-    ensures processors_after { processors.new ≡ processors_of s ++ drop iterations processors.old }
-    ensures values_after { values.new ≡ values_of s ++ drop iterations values.old }
+) -> Counts
+    requires { (s.now.iterations ≤ length steps.old) × (s.now.iterations ≤ length blocks.old)
+        × (s.now.iterations ≤ length processors.old) × (s.now.iterations ≤ length values.old) }
+    ensures value { made_of result ≡ plan_answer s.now.nest 0 }
+    ensures steps_after { steps.new ≡ steps_of s.now.nest ++ drop s.now.iterations steps.old }
+    ensures blocks_after { blocks.new ≡ blocks_of s.now.nest ++ drop s.now.iterations blocks.old }
+    ensures processors_after { processors.new ≡ processors_of s.now.nest ++ drop s.now.iterations processors.old }
+    ensures values_after { values.new ≡ values_of s.now.nest ++ drop s.now.iterations values.old }
 {
+    let iterations = s.iterations;
     let mut table = [0i64; LoopNest::MAX_ITERATIONS];
-    sources::keys_into(s, &mut table);
-    let keys = &table[..iterations];
-    let step_count = partition::steps_into(s, keys, steps);
-    let block_count = place_blocks(s, keys, blocks, processors);
-    let processor_count = mapping::processor_count(processors, iterations);
-    let message_count = mapping::message_count(s, keys, processors);
-    sequential::fill_by_keys(s, keys, values);
-    Planning {
-        refusal: 0,
-        iterations: iterations,
+    let keyed = KeyedNest::new(s, &mut table);
+    let step_count = partition::steps_into(&keyed, steps);
+    let block_count = place_blocks(&keyed, blocks, processors);
+    let processor_count = mapping::processor_count(&processors[..iterations]);
+    let message_count = mapping::message_count(&keyed, processors);
+    sequential::fill_by_keys(&keyed, values);
+    Counts {
+        iterations,
         steps: step_count,
         blocks: block_count,
         processors: processor_count,
@@ -96,79 +80,66 @@ fn make(
     }
 }
 
-// The plan of a loop nest, into four tables.
+// The plan of a loop nest, into four tables: its counts, or the first refusal, 2 to 14, with the
+// tables as they were.
 pub fn plan(
     s: LoopNest,
     steps: &mut [u32],
     blocks: &mut [u16],
     processors: &mut [u8],
     values: &mut [u16],
-) -> Planning
+) -> Result<Counts, Refusal>
     ensures { Plans s
         (tables_in steps.old blocks.old processors.old values.old)
-        result
+        (planning_of result)
         (tables_in steps.new blocks.new processors.new values.new) }
 {
-    let known = nest::inspect(s);
-    let refusal = known.refusal;
-    let iterations = known.iterations;
-    if refusal != 0 {
-        return refused(refusal);
-    }
-    let room = nest::check_room(
-        iterations,
-        steps.len(),
-        blocks.len(),
-        processors.len(),
-        values.len(),
-    );
-    if room != 0 {
-        return refused(room);
-    }
-    make(s, iterations, steps, blocks, processors, values)
+    let accepted = nest::accept(s)?;
+    let rooms = [steps.len(), blocks.len(), processors.len(), values.len()];
+    nest::check_room(accepted.iterations, &rooms)?;
+    Ok(make(&accepted, steps, blocks, processors, values))
 }
 
 // The lines of an accepted nest's plan into a lent buffer that has room for them.
-fn put_plan(s: LoopNest, iterations: usize, out: &mut [u8])
-    requires { (refusal s ≡ 0) × (iterations ≡ length (points_of s))
-        × (row_bytes * (iterations + 1) ≤ length out.old) }
-    ensures { out.new ≡ sets out.old 0 (plan_text s) }
+fn put_plan(s: &AcceptedNest, out: &mut [u8])
+    requires { row_bytes * (s.now.iterations + 1) ≤ length out.old }
+    ensures { out.new ≡ sets out.old 0 (plan_text s.now.nest) }
 {
     let mut steps = [0u32; LoopNest::MAX_ITERATIONS];
     let mut blocks = [0u16; LoopNest::MAX_ITERATIONS];
     let mut processors = [0u8; LoopNest::MAX_ITERATIONS];
     let mut values = [0u16; LoopNest::MAX_ITERATIONS];
-    let p = plan(s, &mut steps, &mut blocks, &mut processors, &mut values);
-    let counts = [p.iterations, p.steps, p.blocks, p.processors, p.messages];
-    let end = lines::put_counts(out, 0, counts);
-    lines::put_rows(out, end, iterations, &steps, &blocks, &processors, &values);
+    let made = make(s, &mut steps, &mut blocks, &mut processors, &mut values);
+    let end = lines::put_counts(
+        out,
+        0,
+        [
+            made.iterations,
+            made.steps,
+            made.blocks,
+            made.processors,
+            made.messages,
+        ],
+    );
+    lines::put_rows(
+        out,
+        end,
+        &steps[..s.iterations],
+        &blocks,
+        &processors,
+        &values,
+    );
 }
 
-// The plan of a loop nest as text, from the nest's text into a lent buffer; answers its length, or
-// the number of the first refusal, 1 to 14, with length 0 and no byte changed.
-pub fn list(text: &[u8], out: &mut [u8]) -> Writing
-    ensures { Lists text.now out.old result out.new }
+// The plan of a loop nest as text, from the nest's text into a lent buffer: its length, or the
+// first refusal, 1 to 14, with no byte changed.
+pub fn list(text: &[u8], out: &mut [u8]) -> Result<usize, Refusal>
+    ensures { Lists text.now out.old (writing_of result) out.new }
 {
-    let reading = nest_text::read(text);
-    if reading.refusal != 0 {
-        return Writing {
-            refusal: reading.refusal,
-            length: 0,
-        };
-    }
-    let s = reading.nest;
-    let known = nest::inspect(s);
-    let iterations = known.iterations;
-    let length = lines::LINE * (iterations + 1);
-    if out.len() < length {
-        return Writing {
-            refusal: SHORT_BUFFER,
-            length: 0,
-        };
-    }
-    put_plan(s, iterations, out);
-    Writing {
-        refusal: 0,
-        length: length,
-    }
+    let s = nest_text::read(text)?;
+    let accepted = nest::accept(s)?;
+    let length = lines::LINE * (accepted.iterations + 1);
+    nest::check_room(length, &[out.len()])?;
+    put_plan(&accepted, out);
+    Ok(length)
 }

@@ -19,6 +19,7 @@ pub fn put_counts(out: &mut [u8], at: usize, counts: [usize; NUMBERS]) -> usize
     requires { (at + row_bytes ≤ length out.old) × ((i : ℕ) → i < row_width → get_or counts i 0 < seven_digits) }
     ensures { Stored out.old at (line (map pos counts)) out.new result }
 {
+    // Kept: five casts, each below its bound; a proof learns nothing of an array's `map`.
     let numbers = [
         counts[0] as i64,
         counts[1] as i64,
@@ -26,7 +27,7 @@ pub fn put_counts(out: &mut [u8], at: usize, counts: [usize; NUMBERS]) -> usize
         counts[3] as i64,
         counts[4] as i64,
     ];
-    nest_text::put_line(out, at, &numbers, 0, NUMBERS)
+    nest_text::put_line(out, at, &numbers)
 }
 
 // Writes the line of an iteration.
@@ -54,27 +55,28 @@ fn put_row(
     put_counts(out, at, counts)
 }
 
-// Writes a line for each of so many iterations: rank, step, block, processor, value.
+// Writes a line for each iteration, of which there are as many as steps: rank, step, block,
+// processor, value.
 pub fn put_rows(
     out: &mut [u8],
     at: usize,
-    iterations: usize,
     steps: &[u32],
     blocks: &[u16],
     processors: &[u8],
     values: &[u16],
 ) -> usize
-    requires iterations_in_bounds { (at + row_bytes * iterations ≤ length out.old) × (iterations ≤ max_iterations) }
-    requires iterations_in_bounds_2 { (iterations ≤ length steps.now) × (iterations ≤ length blocks.now)
-        × (iterations ≤ length processors.now) × (iterations ≤ length values.now) }
-    requires by_index { (k : ℕ) → k < iterations → get_or steps.now k 0 < seven_digits }
+    requires iterations_in_bounds { (at + row_bytes * length steps.now ≤ length out.old)
+        × (length steps.now ≤ max_iterations) }
+    requires iterations_in_bounds_2 { (length steps.now ≤ length blocks.now)
+        × (length steps.now ≤ length processors.now) × (length steps.now ≤ length values.now) }
+    requires by_index { (k : ℕ) → k < length steps.now → get_or steps.now k 0 < seven_digits }
     ensures { Stored out.old at
         (flat_map line (tab (row_of steps.now blocks.now processors.now
-        values.now) iterations)) out.new result }
+        values.now) (length steps.now))) out.new result }
 {
     let mut end = at;
-    for k in 0..iterations {
-        end = put_row(out, end, k, steps[k], blocks[k], processors[k], values[k]);
+    for (k, step) in steps.iter().enumerate() {
+        end = put_row(out, end, k, *step, blocks[k], processors[k], values[k]);
     }
     end
 }

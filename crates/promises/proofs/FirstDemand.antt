@@ -8,37 +8,36 @@ use borrow.Author.Tests.{ne_eqb}
 use lib.IntN.{ℤ}
 use lib.ListN.{length}
 use Rattle.nest.specs.declared.LoopNest.{LoopNest}
-use Rattle.nest.specs.declared.Inspection.{Inspection}
+use Rattle.nest.specs.Refusals.{Inspection}
 use Rattle.nest.specs.Nest.{empty_nest}
 use Rattle.nest.specs.Points.{points_of}
 use Rattle.nest.specs.Refusals.{number, limit, Outside, refusal, iterations, OneShort, table_after, Order, Answered, order_numbers, nest_order, nest_numbers, Checks, Inspects}
 use Rattle.nest.proofs.Answers.{answered-listed, nest-answered, nest-numbers, call-numbers}
 use Rattle.nest.proofs.Entries.{same-table}
 use Rattle.nest_text.specs.Fields.{Bytes}
-use Rattle.nest_text.specs.declared.Reading.{Reading}
-use Rattle.nest_text.specs.declared.Writing.{Writing}
+use Rattle.nest_text.specs.Answered.{Reading}
+use Rattle.nest_text.specs.Answered.{Writing}
 use Rattle.nest_text.specs.Text.{text_of, read_refusal, read_nest, write_refusal, written_length, written, write_order, Puts, Reads}
 use Rattle.nest_text.specs.Form.{read_order}
 use Rattle.nest_text.proofs.WriteAnswers.{put_nothing}
 use Rattle.nest_text.proofs.Answers.{write-answered, read-answered, read-numbers}
-use Rattle.rows.specs.declared.Span.{Span}
+use Rattle.rows.specs.Rows.{Span}
 use Rattle.rows.specs.Rows.{row_refusal, row_order, span_of, row_of, Locates, Cuts}
 use Rattle.rows.proofs.SpanLaws.{span_refusal, refused_span}
 use Rattle.rows.proofs.PartLaws.{empty_iff}
 use Rattle.rows.proofs.Answers.{row-answered}
 use Rattle.sequential.specs.Sequential.{rule_of, values_of, fill_refusal, fill_order, filled, Fills}
 use Rattle.sequential.proofs.Answers.{fill-answered}
-use Rattle.partition.specs.declared.receivers.Receivers.{Receivers}
 use Rattle.partition.specs.Partition.{steps_of, blocks_of}
-use Rattle.partition.specs.Sending.{bound_of, Bounds}
+use Rattle.partition.specs.Sending.{Receivers, bound_of, Bounds}
 use Rattle.partition.proofs.Theorem2.{most-refused}
 use Rattle.mapping.specs.Mapping.{processors_of}
-use Rattle.planner.specs.declared.Planning.{Planning}
+use Rattle.planner.specs.Plan.{Planning}
 use Rattle.planner.specs.Plan.{plan_order, plan_answer, Tables, tables_refusal, Plans}
 use Rattle.planner.specs.Listing.{plan_text, list_order}
 use Rattle.planner.proofs.PlanLaws.{refused-answer, plan-number}
 use Rattle.planner.proofs.Answers.{plan-answered, list-answered}
-use Rattle.execution.specs.declared.Answer.{Answer}
+use Rattle.execution.specs.Answer.{Answer}
 use Rattle.execution.specs.Rules.{Move, compute, deliver, Effect, refuse, iteration, message, answer, Layout}
 use Rattle.execution.specs.Run.{State, move_effect, move_answer, move_after, after}
 use Rattle.execution.specs.Words.{move_order}

@@ -11,13 +11,12 @@ use Rattle.integers.proofs.ListFacts.{get_d_map}
 use Rattle.nest.specs.declared.LoopNest.{LoopNest}
 use Rattle.nest.specs.Points.{points_of}
 use Rattle.nest.specs.Nest.{to_ℕ, count_of}
-use Rattle.nest.specs.declared.Inspection.{Inspection}
+use Rattle.nest.specs.Refusals.{Inspection}
 use Rattle.nest.specs.Refusals.{refusal, table_after, Order, Answered, nest_order}
 use Rattle.nest.proofs.Answers.{answered_unique, nest-answered}
 use Rattle.nest.proofs.Entries.{made_table}
-use Rattle.partition.specs.declared.receivers.Receivers.{Receivers}
 use Rattle.partition.specs.Partition.{steps_of, step_count, groups_of, blocks_of, block_count, chosen_of, no_group}
-use Rattle.partition.specs.Sending.{receiver_count}
+use Rattle.partition.specs.Sending.{Receivers, receiver_count}
 use Rattle.partition.proofs.Sends.{receivers-same}
 use Rattle.partition.proofs.Theorem2.{theorem_2, most-is, most-accepted}
 use Rattle.partition.proofs.Nests.{steps-length, groups-length}
@@ -27,7 +26,7 @@ use Rattle.mapping.proofs.Theorems.{processors-length, processors-below, message
 use Rattle.sequential.specs.Sequential.{rule_of, values_of, fill_refusal, fill_order}
 use Rattle.sequential.proofs.Answers.{fill-answered}
 use Rattle.sequential.proofs.LoopLaws.{loop-value}
-use Rattle.planner.specs.declared.Planning.{Planning}
+use Rattle.planner.specs.Plan.{Planning}
 use Rattle.planner.specs.Plan.{plan_refusal, plan_order, plan_answer, Tables, Plans}
 use Rattle.planner.specs.Listing.{plan_text, list_order}
 use Rattle.planner.proofs.Answers.{plan-answered, list-answered}
@@ -37,14 +36,14 @@ use Rattle.execution.specs.Words.{move_order}
 use Rattle.execution.specs.Entry.{number_of}
 use Rattle.execution.proofs.Answers.{move-answered}
 use Rattle.nest_text.specs.Fields.{Bytes}
-use Rattle.nest_text.specs.declared.Reading.{Reading}
-use Rattle.nest_text.specs.declared.Writing.{Writing}
+use Rattle.nest_text.specs.Answered.{Reading}
+use Rattle.nest_text.specs.Answered.{Writing}
 use Rattle.nest_text.specs.Text.{short_last, text_with, text_of, read_refusal, read_nest, write_refusal, write_order}
 use Rattle.nest_text.specs.Text.{Writes}
 use Rattle.nest_text.specs.Form.{LongEqual}
 use Rattle.nest_text.specs.Form.{read_order}
 use Rattle.nest_text.proofs.Answers.{read-answered, write-answered}
-use Rattle.rows.specs.declared.Span.{Span}
+use Rattle.rows.specs.Rows.{Span}
 use Rattle.rows.specs.Rows.{row_refusal, row_order}
 use Rattle.rows.proofs.SpanLaws.{span_refusal}
 use Rattle.rows.proofs.Answers.{row-answered}

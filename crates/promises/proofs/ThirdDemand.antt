@@ -11,11 +11,11 @@ use Rattle.nest.specs.Refusals.{refusal}
 use Rattle.mapping.specs.Mapping.{message_count}
 use Rattle.mapping.proofs.Theorems.{message_true, true_message}
 use Rattle.sequential.specs.Sequential.{Rule, rule_of}
-use Rattle.planner.specs.declared.Planning.{Planning}
+use Rattle.planner.specs.Plan.{Planning}
 use Rattle.planner.specs.Plan.{plan_answer}
 use Rattle.planner.proofs.PlanLaws.{plan-answer, plan-accepted}
 use Rattle.execution.specs.declared.Move as asked
-use Rattle.execution.specs.declared.Answer.{Answer}
+use Rattle.execution.specs.Answer.{Answer}
 use Rattle.execution.specs.Rules.{Move, Effect, refuse, iteration, message, answer, Layout, effect}
 use Rattle.execution.specs.Machine.{Machine, fresh_machine, layout_of, reference_run}
 use Rattle.execution.specs.Words.{SaysList, no_move, next_move}

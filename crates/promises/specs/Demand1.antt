@@ -5,22 +5,21 @@
 use Rattle.std.specs.Prelude.{◌≡◌, ◌≢◌, ◌↔◌, ℕ, ℤ}
 use mathlib.Core.List.{List, [], ◌∷◌, ◌++◌, Memᴰ}
 use Rattle.nest.specs.declared.LoopNest.{LoopNest}
-use Rattle.nest.specs.declared.Inspection.{Inspection}
+use Rattle.nest.specs.Refusals.{Inspection}
 use Rattle.nest.specs.Nest.{empty_nest}
 use Rattle.nest.specs.Refusals.{nest_numbers, Checks, Inspects}
 use Rattle.nest_text.specs.Fields.{Bytes}
-use Rattle.nest_text.specs.declared.Reading.{Reading}
-use Rattle.nest_text.specs.declared.Writing.{Writing}
+use Rattle.nest_text.specs.Answered.{Reading}
+use Rattle.nest_text.specs.Answered.{Writing}
 use Rattle.nest_text.specs.Text.{Reads, Writes}
-use Rattle.rows.specs.declared.Span.{Span}
+use Rattle.rows.specs.Rows.{Span}
 use Rattle.rows.specs.Rows.{Locates, Cuts}
 use Rattle.sequential.specs.Sequential.{Fills}
-use Rattle.partition.specs.declared.receivers.Receivers.{Receivers}
-use Rattle.partition.specs.Sending.{Bounds}
-use Rattle.planner.specs.declared.Planning.{Planning}
+use Rattle.partition.specs.Sending.{Receivers, Bounds}
+use Rattle.planner.specs.Plan.{Planning}
 use Rattle.planner.specs.Plan.{Tables, Plans}
 use Rattle.planner.specs.Listing.{Lists}
-use Rattle.execution.specs.declared.Answer.{Answer}
+use Rattle.execution.specs.Answer.{Answer}
 use Rattle.execution.specs.Rules.{Move, compute, deliver, Layout}
 use Rattle.execution.specs.Run.{State}
 use Rattle.execution.specs.declared.Move as asked

@@ -14,24 +14,23 @@ use Rattle.integers.specs.Vector.{dots}
 use Rattle.nest.specs.declared.LoopNest.{LoopNest}
 use Rattle.nest.specs.Nest.{to_ℕ, count_of, time_of, cleared}
 use Rattle.nest.specs.Points.{points_of, point, source}
-use Rattle.nest.specs.declared.Inspection.{Inspection}
+use Rattle.nest.specs.Refusals.{Inspection}
 use Rattle.nest.specs.Refusals.{dependence, refusal, Order, Answered, nest_order, Checks, Inspects}
 use Rattle.nest_text.specs.Fields.{Bytes}
-use Rattle.nest_text.specs.declared.Reading.{Reading}
-use Rattle.nest_text.specs.declared.Writing.{Writing}
+use Rattle.nest_text.specs.Answered.{Reading}
+use Rattle.nest_text.specs.Answered.{Writing}
 use Rattle.nest_text.specs.Text.{short_last, text_with, text_of, write_order, Reads, Writes}
 use Rattle.nest_text.specs.Form.{read_order, LongEqual, TextFor}
-use Rattle.rows.specs.declared.Span.{Span}
+use Rattle.rows.specs.Rows.{Span}
 use Rattle.rows.specs.Rows.{row_order, Locates, Cuts}
-use Rattle.partition.specs.declared.receivers.Receivers.{Receivers}
 use Rattle.partition.specs.Partition.{step, step_number, steps_of, blocks_of, chosen_of, group_at}
-use Rattle.partition.specs.Sending.{receiver_count, Bounds}
+use Rattle.partition.specs.Sending.{Receivers, receiver_count, Bounds}
 use Rattle.mapping.specs.Mapping.{processors_of, processor_count, is_message, pairs}
 use Rattle.sequential.specs.Sequential.{value_of, rule_of, values_of, fill_order, Fills}
-use Rattle.planner.specs.declared.Planning.{Planning}
+use Rattle.planner.specs.Plan.{Planning}
 use Rattle.planner.specs.Plan.{plan_order, Tables, Plans}
 use Rattle.planner.specs.Listing.{list_order, Lists}
-use Rattle.execution.specs.declared.Answer.{Answer}
+use Rattle.execution.specs.Answer.{Answer}
 use Rattle.execution.specs.Rules.{Move, Layout}
 use Rattle.execution.specs.Run.{State}
 use Rattle.execution.specs.Words.{move_order}

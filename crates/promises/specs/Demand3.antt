@@ -9,10 +9,10 @@ use Rattle.nest.specs.Nest.{count_of}
 use Rattle.nest.specs.Points.{points_of}
 use Rattle.mapping.specs.Mapping.{Message}
 use Rattle.sequential.specs.Sequential.{Rule, sequential, rule_of}
-use Rattle.planner.specs.declared.Planning.{Planning}
+use Rattle.planner.specs.Plan.{Planning}
 use Rattle.planner.specs.Plan.{Tables, Plans}
 use Rattle.execution.specs.declared.Move as asked
-use Rattle.execution.specs.declared.Answer.{Answer}
+use Rattle.execution.specs.Answer.{Answer}
 use Rattle.execution.specs.Rules.{Move, Effect, answer, Layout}
 use Rattle.execution.specs.Machine.{Machine, fresh_machine, with_iteration, with_message, layout_of}
 use Rattle.execution.specs.Machine.{computed_count, delivered_count, allowed_count}

@@ -5,6 +5,8 @@
 // span, a nest that was read) is stored through a reference of its own, zeros where the call is
 // refused: it is a part of the answer. `rows::row` answers a part of a lent table, which C cannot
 // take: `rowlock_locate` says where that part lies.
+//
+// Kept: the C interface. C has no Result, so each entry answers a number and stores the rest.
 #![tactic(auto)]
 
 ghost use Rattle.nest.specs.Refusals.{Checks, Inspects};
@@ -18,6 +20,7 @@ ghost use Rattle.execution.specs.Entry.{layout_in, state_in};
 ghost use Rattle.foreign.specs.Numbers.{nest_in, move_in, span_from, planning_from, ReadsInto, MakesInto};
 
 use foreign::{NUMBERS, made_in, make_move_in, move_in, nest_in, number_of, numbers_of};
+use nest::LoopNest;
 
 // How many counts a plan has.
 pub const COUNTS: usize = 5;
@@ -26,7 +29,7 @@ pub const COUNTS: usize = 5;
 pub fn rowlock_check(numbers: &[i64; NUMBERS]) -> u8
     ensures { Checks (nest_in numbers.now) result }
 {
-    nest::check(nest_in(numbers))
+    number_of(&nest::check(nest_in(numbers)))
 }
 
 // The same, with the number of iterations of an accepted nest; 0 for a refused one.
@@ -35,8 +38,8 @@ pub fn rowlock_inspect(numbers: &[i64; NUMBERS], iterations: &mut usize) -> u8
         (record { refusal = result; iterations = iterations.new }) }
 {
     let known = nest::inspect(nest_in(numbers));
-    *iterations = known.iterations;
-    known.refusal
+    *iterations = known.unwrap_or(0);
+    number_of(&known)
 }
 
 // To how many other blocks a block of a nest's plan sends at most, before it is planned; or the
@@ -45,9 +48,9 @@ pub fn rowlock_most_receivers(numbers: &[i64; NUMBERS], most: &mut usize) -> u8
     ensures { Bounds (nest_in numbers.now)
         (record { refusal = result; most = most.new }) }
 {
-    let known = partition::most_receivers(nest_in(numbers));
-    *most = known.most;
-    known.refusal
+    let bound = partition::most_receivers(nest_in(numbers));
+    *most = bound.unwrap_or(0);
+    number_of(&bound)
 }
 
 // A nest from its text: 0 with the nest, unused places 0; or the number of the first refusal, 1 to
@@ -55,9 +58,9 @@ pub fn rowlock_most_receivers(numbers: &[i64; NUMBERS], most: &mut usize) -> u8
 pub fn rowlock_read(text: &[u8], numbers: &mut [i64; NUMBERS]) -> u8
     ensures { ReadsInto text.now result numbers.new }
 {
-    let reading = nest_text::read(text);
-    *numbers = numbers_of(reading.nest);
-    reading.refusal
+    let read = nest_text::read(text);
+    *numbers = numbers_of(read.unwrap_or(LoopNest::empty()));
+    number_of(&read)
 }
 
 // The text of a nest into a lent buffer, and how many bytes it has; or the number of the first
@@ -66,9 +69,9 @@ pub fn rowlock_write(numbers: &[i64; NUMBERS], out: &mut [u8], bytes: &mut usize
     ensures { Writes (nest_in numbers.now) out.old
         (record { refusal = result; length = bytes.new }) out.new }
 {
-    let writing = nest_text::write(nest_in(numbers), out);
-    *bytes = writing.length;
-    writing.refusal
+    let written = nest_text::write(nest_in(numbers), out);
+    *bytes = written.unwrap_or(0);
+    number_of(&written)
 }
 
 // Where the row of an outermost index lies in a table of so many entries, by its start and its
@@ -82,8 +85,11 @@ pub fn rowlock_locate(
     ensures { Locates (nest_in numbers.now) entries index (span_from result span.new) }
 {
     let at = rows::locate(nest_in(numbers), entries, index);
-    *span = [at.start, at.length];
-    at.refusal
+    *span = match at {
+        Ok(row) => [row.start, row.length],
+        Err(_) => [0, 0],
+    };
+    number_of(&at)
 }
 
 // The values of the sequential loop into a lent table; or the number of the first refusal, 2 to 14,
@@ -91,7 +97,7 @@ pub fn rowlock_locate(
 pub fn rowlock_fill(numbers: &[i64; NUMBERS], values: &mut [u16]) -> u8
     ensures { Fills (nest_in numbers.now) values.old result values.new }
 {
-    sequential::fill(nest_in(numbers), values)
+    number_of(&sequential::fill(nest_in(numbers), values))
 }
 
 // The plan of a nest into four lent tables, and its counts (iterations, steps, blocks, processors
@@ -110,15 +116,12 @@ pub fn rowlock_plan(
         (planning_from result counts.new)
         (tables_in steps.new blocks.new processors.new values.new) }
 {
-    let answer = planner::plan(nest_in(numbers), steps, blocks, processors, values);
-    *counts = [
-        answer.iterations,
-        answer.steps,
-        answer.blocks,
-        answer.processors,
-        answer.messages,
-    ];
-    answer.refusal
+    let plan = planner::plan(nest_in(numbers), steps, blocks, processors, values);
+    *counts = match plan {
+        Ok(p) => [p.iterations, p.steps, p.blocks, p.processors, p.messages],
+        Err(_) => [0; COUNTS],
+    };
+    number_of(&plan)
 }
 
 // The plan of a nest as text, from the nest's text into a lent buffer, and how many bytes it has;
@@ -127,9 +130,9 @@ pub fn rowlock_list(text: &[u8], out: &mut [u8], bytes: &mut usize) -> u8
     ensures { Lists text.now out.old
         (record { refusal = result; length = bytes.new }) out.new }
 {
-    let listing = planner::list(text, out);
-    *bytes = listing.length;
-    listing.refusal
+    let listed = planner::list(text, out);
+    *bytes = listed.unwrap_or(0);
+    number_of(&listed)
 }
 
 // Makes a move on the tables of a plan and on a state, all of any content. Kind 1 is a compute on
@@ -158,5 +161,5 @@ pub fn rowlock_move(
     let what = move_in(kind, first, second);
     let answer = make_move_in(numbers, what, steps, processors, values, done, delivered);
     *made = made_in(answer);
-    number_of(answer)
+    number_of(&answer)
 }

@@ -5,6 +5,9 @@
 // span, a nest that was read) is stored through a reference of its own, zeros where the call is
 // refused: it is a part of the answer. `rows::row` answers a part of a lent table, which C cannot
 // take: `rowlock_locate` says where that part lies.
+//
+// Kept: the C interface. A crate is a library or a static library, so the ten functions of the
+// crate rowlock, which other crates call, stand here once more, under their exported names.
 #![tactic(auto)]
 
 ghost use Rattle.nest.specs.Refusals.{Checks, Inspects};

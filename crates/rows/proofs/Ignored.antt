@@ -15,7 +15,7 @@ use Rattle.nest.specs.declared.LoopNest.{LoopNest}
 use Rattle.nest.specs.Nest.{cleared}
 use Rattle.nest.specs.Refusals.{refusal, outside, or_else, short_buffer, limit}
 use Rattle.nest.proofs.Places.{cleared-refusal, accepted-same, same_points}
-use Rattle.rows.specs.declared.Span.{Span}
+use Rattle.rows.specs.Rows.{Span}
 use Rattle.rows.specs.Rows.{outermost, row_start, row_length, no_such_row, row_refusal, span_of}
 use Rattle.rows.proofs.RowLaws.{outer}
 use Rattle.rows.proofs.SpanLaws.{bad_nest}

@@ -14,7 +14,7 @@ use Rattle.nest.specs.declared.LoopNest.{LoopNest}
 use Rattle.nest.specs.Points.{points_of}
 use Rattle.nest.specs.Refusals.{refusal, outside, short_buffer, limit}
 use Rattle.nest.proofs.Entries.{or_else-zero}
-use Rattle.rows.specs.declared.Span.{Span}
+use Rattle.rows.specs.Rows.{Span}
 use Rattle.rows.specs.Rows.{row_length, no_such_row, row_refusal, span_of, row_of}
 use Rattle.rows.proofs.RowLaws.{row-some}
 use Rattle.rows.proofs.SpanLaws.{refused_span, allowed_span, span_fits}

@@ -14,9 +14,24 @@ use Rattle.nest.specs.declared.LoopNest.{LoopNest}
 use Rattle.nest.specs.Points.{points_of}
 use Rattle.nest.specs.Refusals.{refusal, outside, or_else, short_buffer, limit}
 use Rattle.nest.proofs.Entries.{or_else-first, or_else-second, long_enough, too_short}
-use Rattle.rows.specs.declared.Span.{Span}
+use Rattle.std.specs.Prelude.{List, [], Result}
+use Rattle.std.specs.Borrow.{Bor}
+use Rattle.std.specs.Result.{IsErrAnd}
+use Rattle.std.proofs.lemmas.Result.{err_from_is_err_and}
+use Rattle.nest.specs.declared.refusals.Refusal.{Refusal}
+use Rattle.nest.specs.Outcomes.{code}
+use Rattle.rows.specs.declared.RowSpan.{RowSpan}
+use Rattle.rows.specs.Answered.{span_in, part_in}
+use Rattle.rows.specs.Rows.{Span}
 use Rattle.rows.specs.Rows.{row_start, row_length, no_such_row, row_refusal, span_of}
 use Rattle.rows.proofs.RowLaws.{row_fits}
+
+-- the refusal that a `?` hands on
+pub span_out : (r : Result RowSpan Refusal) (e : Refusal) → IsErrAnd r (λ y. y ≡ e) → span_in r ≡ record { refusal = code e; start = 0; length = 0 }
+span_out r e h = let p = err_from_is_err_and r h in rw (p.1, p.2) refl
+
+pub part_out : (r : Result (Bor (List ℕ)) Refusal) (e : Refusal) → IsErrAnd r (λ y. y ≡ e) → part_in r ≡ []
+part_out r e h = let p = err_from_is_err_and r h in rw p.1 refl
 
 module _ (s : LoopNest) (entries : ℕ) (i : ℤ) where
   -- a refused call

@@ -1,2 +1,3 @@
 -- What a row of a table is.
 pub mod Rows
+pub mod Answered

@@ -8,7 +8,6 @@ use Rattle.integers.specs.Vector.{Vector, eq_z}
 use Rattle.nest.specs.declared.LoopNest.{LoopNest}
 use Rattle.nest.specs.Points.{points_of}
 use Rattle.nest.specs.Refusals.{refusal, outside, or_else, short_buffer, limit, Outside, Order, nest_order}
-use Rattle.rows.specs.declared.Span.{Span}
 
 -- the outermost index of a point
 abbrev pub outermost : Vector → ℤ
@@ -34,6 +33,13 @@ row_refusal s entries i = or_else (refusal s) (or_else (short_buffer (length (po
 abbrev pub row_order : LoopNest → ℕ → ℤ → Order
 row_order s entries i = nest_order s
     ++ ((14, entries < length (points_of s)) ∷ (19, Outside (limit s 0).lower (limit s 0).upper i) ∷ [])
+
+-- where a row lies in a table: the number of a refusal with 0 and 0, or 0 with the row's start and
+-- length
+pub record Span : Type 0 where
+  pub refusal : ℕ
+  pub start : ℕ
+  pub length : ℕ
 
 -- where the row lies in a table of so many entries; 0 and 0 where the call is refused
 unfoldable pub span_of : LoopNest → ℕ → ℤ → Span

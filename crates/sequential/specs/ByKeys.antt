@@ -6,10 +6,6 @@ use Rattle.integers.specs.Lists.{tab, total}
 use Rattle.sources.specs.Keys.{source_in}
 use Rattle.sequential.specs.Sequential.{modulus}
 
--- up to so many iterations, the table of their keys is small
-abbrev pub few_iterations : ℕ
-few_iterations = 512
-
 module _ (keys distances : List ℤ) (weights boundaries values : List ℕ) (k : ℕ) where
   -- the weight of dependence i times what is read along it
   unfoldable pub term_in : ℕ → ℕ

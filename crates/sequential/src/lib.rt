@@ -2,225 +2,201 @@
 #![tactic(auto)]
 
 ghost use Rattle.std.specs.Prelude.{◌≡◌, true, [], ◌++◌, ℕ, ◌*◌, ◌<◌, ◌≤◌, pos, length, get_or, take, drop};
-ghost use Rattle.nest.specs.Nest.{to_ℕ, part, padded, depth_of, count_of, max_depth, max_dependences, max_iterations};
+ghost use Rattle.std.specs.Prelude.{IfSome, MatchOption};
+ghost use Rattle.nest.specs.Nest.{to_ℕ, part, padded, depth_of, count_of, max_depth, max_iterations};
 ghost use Rattle.nest.specs.Nest.{max_boundary, max_weight};
 ghost use Rattle.nest.specs.Points.{points_of, rank, is_point, source};
-ghost use Rattle.nest.specs.Refusals.{refusal, dependence};
-ghost use Rattle.sources.specs.Keys.{keys_of, Searchable, Behind};
-ghost use Rattle.sequential.specs.ByKeys.{few_iterations, value_in};
+ghost use Rattle.nest.specs.Refusals.{dependence};
+ghost use Rattle.nest.specs.Outcomes.{number_in};
+ghost use Rattle.sequential.specs.ByKeys.{value_in};
+ghost use Rattle.sequential.specs.Edges.{weights_in, boundaries_in};
 ghost use Rattle.sequential.specs.Sequential.{value_of, loop, rule_of, Fills};
 
-use nest::{LoopNest, SHORT_BUFFER};
+use nest::{AcceptedNest, LoopNest, Refusal};
+use sources::{KeyedNest, Sources};
 
 // Values are below it.
 const MODULUS: usize = 65536;
 
-// Entry j of a table, where j is one of so many iterations; the boundary value where it is none.
-fn entry_or(values: &[u16], iterations: usize, j: usize, boundary: u16) -> u16
-    requires { iterations ≤ length values.now }
-    ensures { result ≡ get_or (take iterations values.now) j boundary }
-{
-    if j < iterations { values[j] } else { boundary }
+// How a value is read along a dependence: with this weight, and as this boundary value where the
+// source is no iteration.
+#[derive(Clone, Copy)]
+struct Edge {
+    weight: u8,
+    boundary: u16,
 }
 
-// A weight times entry j of a table, where j is one of so many iterations; times the boundary value
-// where it is none.
-fn weighted(values: &[u16], iterations: usize, j: usize, boundary: u16, weight: usize) -> usize
-    requires { (iterations ≤ length values.now) × (weight ≤ max_weight) }
-    ensures { (result ≡ weight * get_or (take iterations values.now) j boundary)
-        × (result ≤ max_weight * max_boundary) }
+impl Edge {
+    // The weight times the value that is read, of an iteration or at the boundary.
+    fn read(self, values: &[u16], source: Option<usize>) -> usize
+        requires { IfSome source (λ j. j < length values.now) }
+        ensures value { MatchOption source (result ≡ self.weight * self.boundary)
+            (λ j. result ≡ self.weight * get_or values.now j 0) }
+        ensures upper_bound { result ≤ max_weight * max_boundary }
+    {
+        let value = match source {
+            Some(j) => values[j],
+            None => self.boundary,
+        };
+        self.weight as usize * value as usize
+    }
+}
+
+// How a value is read along dependence i of an accepted nest.
+fn edge_at(s: &AcceptedNest, i: usize) -> Edge
+    requires { i < count_of s.now.nest }
+    ensures weight { result.weight ≡ to_ℕ (get_or s.now.nest.weights i (pos 0)) }
+    ensures boundary { result.boundary ≡ to_ℕ (get_or s.now.nest.boundaries i (pos 0)) }
 {
-    weight * entry_or(values, iterations, j, boundary) as usize
+    Edge {
+        weight: nest::to_size(s.nest.weights[i]) as u8,
+        boundary: nest::to_size(s.nest.boundaries[i]) as u16,
+    }
 }
 
 // The weight of dependence i times the value that is read along it at an index point, where the
 // iterations have these values: the source's, or the boundary value of dependence i where the
 // source is no iteration.
 fn weighted_source(
-    s: LoopNest,
-    iterations: usize,
+    s: &AcceptedNest,
     values: &[u16],
     point: [i64; LoopNest::MAX_DEPTH],
     i: usize,
 ) -> usize
-    requires { (refusal s ≡ 0) × (is_point (points_of s) (part point 0 (depth_of s)) ≡ true) × (i < count_of s)
-        × (iterations ≤ length values.now) }
-    ensures value { result ≡ to_ℕ (get_or s.weights i (pos 0)) * get_or (take iterations values.now)
-        (rank (points_of s) (source (part point 0 (depth_of s)) (dependence s i)))
-        (to_ℕ (get_or s.boundaries i (pos 0))) }
+    requires { (is_point (points_of s.now.nest) (part point 0 (depth_of s.now.nest)) ≡ true)
+        × (i < count_of s.now.nest) × (s.now.iterations ≤ length values.now) }
+    ensures value { result ≡ to_ℕ (get_or s.now.nest.weights i (pos 0)) * get_or (take s.now.iterations values.now)
+        (rank (points_of s.now.nest) (source (part point 0 (depth_of s.now.nest)) (dependence s.now.nest i)))
+        (to_ℕ (get_or s.now.nest.boundaries i (pos 0))) }
     ensures upper_bound { result ≤ max_weight * max_boundary }
 {
-    let j = nest::source_at(s, point, i);
-    let boundaries = s.boundaries;
-    let boundary = nest::to_size(boundaries[i]) as u16;
-    let weights = s.weights;
-    let weight = nest::to_size(weights[i]);
-    weighted(values, iterations, j, boundary, weight)
+    let source = s.source_at(point, i);
+    edge_at(s, i).read(values, source)
 }
 
 // The value of iteration k of an accepted nest, whose index point is given, where the iterations
 // have these values: the weighted sum of its source values.
-fn value_from(
-    s: LoopNest,
-    iterations: usize,
-    values: &[u16],
-    point: [i64; LoopNest::MAX_DEPTH],
-    k: usize,
-) -> u16
-    requires { (refusal s ≡ 0) × (iterations ≡ length (points_of s)) × (k < iterations)
-        × (iterations ≤ length values.now) × (point ≡ padded max_depth (get_or (points_of s) k [])) }
-    ensures { result ≡ value_of (rule_of s) s values.now k }
+fn value_from(s: &AcceptedNest, values: &[u16], point: [i64; LoopNest::MAX_DEPTH], k: usize) -> u16
+    requires { (k < s.now.iterations) × (s.now.iterations ≤ length values.now)
+        × (point ≡ padded max_depth (get_or (points_of s.now.nest) k [])) }
+    ensures { result ≡ value_of (rule_of s.now.nest) s.now.nest values.now k }
 {
-    let m = nest::to_size(s.count);
+    let m = s.count();
     let mut sum = k;
     for i in 0..m {
-        sum = sum + weighted_source(s, iterations, values, point, i);
+        sum += weighted_source(s, values, point, i);
     }
     (sum % MODULUS) as u16
 }
 
 // The value of iteration k of an accepted nest, where the iterations have these values.
-pub fn value_at(s: LoopNest, iterations: usize, values: &[u16], k: usize) -> u16
-    requires { (refusal s ≡ 0) × (iterations ≡ length (points_of s)) × (k < iterations)
-        × (iterations ≤ length values.now) }
-    ensures { result ≡ value_of (rule_of s) s values.now k }
+pub fn value_at(s: &AcceptedNest, values: &[u16], k: usize) -> u16
+    requires { (k < s.now.iterations) × (s.now.iterations ≤ length values.now) }
+    ensures { result ≡ value_of (rule_of s.now.nest) s.now.nest values.now k }
 {
-    let point = nest::point_of(s, k);
-    value_from(s, iterations, values, point, k)
+    let point = s.point_of(k);
+    value_from(s, values, point, k)
 }
 
-// The boundary values, or the weights, of m dependences, as sizes.
-fn sizes_of(
-    numbers: &[i64; LoopNest::MAX_DEPENDENCES],
-    m: usize,
-) -> [usize; LoopNest::MAX_DEPENDENCES]
-    requires { m ≤ max_dependences }
-    ensures { (i : ℕ) → i < m → get_or result i 0 ≡ to_ℕ (get_or numbers.now i (pos 0)) }
+// How values are read along the dependences of an accepted nest, in the first places.
+fn edges_of(s: &AcceptedNest) -> [Edge; LoopNest::MAX_DEPENDENCES]
+    ensures weights { (i : ℕ) → i < count_of s.now.nest
+        → get_or (weights_in result) i 0 ≡ to_ℕ (get_or s.now.nest.weights i (pos 0)) }
+    ensures boundaries { (i : ℕ) → i < count_of s.now.nest
+        → get_or (boundaries_in result) i 0 ≡ to_ℕ (get_or s.now.nest.boundaries i (pos 0)) }
 {
-    let mut sizes = [0usize; LoopNest::MAX_DEPENDENCES];
-    for i in 0..m {
-        sizes[i] = nest::to_size(numbers[i]);
+    let m = s.count();
+    let mut edges = [Edge {
+        weight: 0,
+        boundary: 0,
+    }; LoopNest::MAX_DEPENDENCES];
+    for (i, edge) in edges[..m].iter_mut().enumerate() {
+        *edge = edge_at(s, i);
     }
-    sizes
+    edges
 }
 
-// The value of iteration k, where the iterations before it have these values: the weighted sum of
-// its source values. The sources are found by their keys, and the cursors go forward to them; one
-// that is no iteration reads as the boundary value of its dependence.
-fn next_value(
-    keys: &[i64],
-    k: usize,
-    m: usize,
-    distances: &[i64; LoopNest::MAX_DEPENDENCES],
-    weights: &[usize; LoopNest::MAX_DEPENDENCES],
-    boundaries: &[usize; LoopNest::MAX_DEPENDENCES],
-    values: &[u16],
-    cursors: &mut [usize; LoopNest::MAX_DEPENDENCES],
-) -> u16
-    requires k_in_bounds { (k < length keys.now) × (length keys.now ≤ max_iterations)
-        × (length keys.now ≤ length values.now) × (m ≤ max_dependences) }
-    requires by_index { (i : ℕ) → i < m → Searchable keys.now (get_or distances.now i (pos 0))
-        × (get_or weights.now i 0 ≤ max_weight) × (get_or boundaries.now i 0 ≤ max_boundary) }
-    requires behind { Behind keys.now distances.now k m cursors.old }
-    ensures value { result ≡ value_in keys.now distances.now weights.now
-        boundaries.now values.now k m }
-    ensures behind_2 { Behind keys.now distances.now k m cursors.new }
+// The value of the iteration whose sources are asked for, where the iterations before it have these
+// values: the weighted sum of its source values.
+fn next_value(sources: &mut Sources, edges: &[Edge], values: &[u16]) -> u16
+    requires iteration { sources.old.iteration < length sources.old.keys.now }
+    requires few { length sources.old.keys.now ≤ max_iterations }
+    requires room { length sources.old.keys.now ≤ length values.now }
+    requires edges { length edges.now ≡ length sources.old.distances.now }
+    ensures value { result ≡ value_in sources.old.keys.now sources.old.distances.now (weights_in edges.now)
+        (boundaries_in edges.now) values.now sources.old.iteration (length edges.now) }
+    ensures keys { sources.new.keys.now ≡ sources.old.keys.now }
+    ensures distances { sources.new.distances.now ≡ sources.old.distances.now }
+    ensures iteration { sources.new.iteration ≡ sources.old.iteration }
 {
-    let iterations = keys.len();
-    let mut total = k;
-    for i in 0..m {
-        let j = sources::next_source(keys, k, distances, i, cursors);
-        let boundary = boundaries[i] as u16;
-        total = total + weighted(values, iterations, j, boundary, weights[i]);
+    let mut total = sources.iteration;
+    for (i, edge) in edges.iter().enumerate() {
+        total += edge.read(values, sources.source(i));
     }
     (total % MODULUS) as u16
 }
 
-// The values of the iterations of an accepted nest, in loop order, from the
-// keys of its index points.
-pub fn fill_by_keys(s: LoopNest, keys: &[i64], values: &mut [u16])
-    requires { (refusal s ≡ 0) × (keys.now ≡ keys_of s) × (length (points_of s) ≤ length values.old) }
+// The values of the iterations of an accepted nest, in loop order, from the keys of its index
+// points.
+pub fn fill_by_keys(s: &KeyedNest, values: &mut [u16])
+    requires { length (points_of s.now.nest.now.nest) ≤ length values.old }
     ensures { values.new
-        ≡ loop (rule_of s) s (length (points_of s)) ++ drop (length (points_of s)) values.old }
+        ≡ loop (rule_of s.now.nest.now.nest) s.now.nest.now.nest (length (points_of s.now.nest.now.nest))
+        ++ drop (length (points_of s.now.nest.now.nest)) values.old }
 {
-    let iterations = keys.len();
-    let m = nest::to_size(s.count);
-    let distances = sources::distances_of(s);
-    let weights = sizes_of(&s.weights, m);
-    let boundaries = sizes_of(&s.boundaries, m);
-    let mut cursors = [0usize; LoopNest::MAX_DEPENDENCES];
-    for k in 0..iterations {
-        values[k] = next_value(
-            keys,
-            k,
-            m,
-            &distances,
-            &weights,
-            &boundaries,
-            values,
-            &mut cursors,
-        );
+    let distances = sources::distances_of(s.nest);
+    let edges = edges_of(s.nest);
+    let m = s.nest.count();
+    let mut sources = Sources::new(s.keys, &distances[..m]);
+    // Kept: a value is stored in the table that the later ones are read from.
+    for k in 0..s.keys.len() {
+        values[k] = next_value(&mut sources, &edges[..m], values);
+        sources.advance();
     }
 }
 
 // The values of the iterations of an accepted nest, in loop order. `keys` has room for their keys.
-fn fill_within(s: LoopNest, iterations: usize, keys: &mut [i64], values: &mut [u16])
-    requires s_value { (refusal s ≡ 0) × (iterations ≡ length (points_of s)) × (iterations ≤ length values.old) }
-    requires iterations_in_bounds { iterations ≤ length keys.old }
-    ensures { values.new ≡ loop (rule_of s) s iterations ++ drop iterations values.old }
+fn fill_within(s: &AcceptedNest, keys: &mut [i64], values: &mut [u16])
+    requires values { s.now.iterations ≤ length values.old }
+    requires keys { s.now.iterations ≤ length keys.old }
+    ensures { values.new ≡ loop (rule_of s.now.nest) s.now.nest s.now.iterations ++ drop s.now.iterations values.old }
 {
-    sources::keys_into(s, keys);
-    fill_by_keys(s, &keys[..iterations], values);
+    let keyed = KeyedNest::new(s, keys);
+    fill_by_keys(&keyed, values);
 }
 
 // Up to so many iterations, the table of their keys is small.
 const FEW_ITERATIONS: usize = 512;
 
-// The same, with a table of its own for few iterations.
-fn fill_few(s: LoopNest, iterations: usize, values: &mut [u16])
-    requires s_value { (refusal s ≡ 0) × (iterations ≡ length (points_of s)) × (iterations ≤ length values.old) }
-    requires iterations_le_few_iterations { iterations ≤ few_iterations }
-    ensures { values.new ≡ loop (rule_of s) s iterations ++ drop iterations values.old }
+// The same, with a table of its own for so many keys.
+fn fill_sized<const ROOM: usize>(s: &AcceptedNest, values: &mut [u16])
+    requires values { s.now.iterations ≤ length values.old }
+    requires room { (s.now.iterations ≤ ROOM) × (ROOM ≤ max_iterations) }
+    ensures { values.new ≡ loop (rule_of s.now.nest) s.now.nest s.now.iterations ++ drop s.now.iterations values.old }
 {
-    let mut keys = [0i64; FEW_ITERATIONS];
-    fill_within(s, iterations, &mut keys, values);
-}
-
-// The same, with a table of its own for as many iterations as there may be.
-fn fill_many(s: LoopNest, iterations: usize, values: &mut [u16])
-    requires { (refusal s ≡ 0) × (iterations ≡ length (points_of s)) × (iterations ≤ length values.old) }
-    ensures { values.new ≡ loop (rule_of s) s iterations ++ drop iterations values.old }
-{
-    let mut keys = [0i64; LoopNest::MAX_ITERATIONS];
-    fill_within(s, iterations, &mut keys, values);
+    let mut keys = [0i64; ROOM];
+    fill_within(s, &mut keys, values);
 }
 
 // The same: the table of keys is no larger than it has to be, since it is cleared whole.
-fn fill_values(s: LoopNest, iterations: usize, values: &mut [u16])
-    requires { (refusal s ≡ 0) × (iterations ≡ length (points_of s)) × (iterations ≤ length values.old) }
-    ensures { values.new ≡ loop (rule_of s) s iterations ++ drop iterations values.old }
+fn fill_values(s: &AcceptedNest, values: &mut [u16])
+    requires { s.now.iterations ≤ length values.old }
+    ensures { values.new ≡ loop (rule_of s.now.nest) s.now.nest s.now.iterations ++ drop s.now.iterations values.old }
 {
-    if iterations <= FEW_ITERATIONS {
-        fill_few(s, iterations, values);
+    if s.iterations <= FEW_ITERATIONS {
+        fill_sized::<FEW_ITERATIONS>(s, values);
     } else {
-        fill_many(s, iterations, values);
+        fill_sized::<{ LoopNest::MAX_ITERATIONS }>(s, values);
     }
 }
 
-// The values of the sequential loop into a lent table, which has an entry for each iteration;
-// answers 0, or the number of the first refusal, 2 to 14, with no entry changed.
-pub fn fill(s: LoopNest, values: &mut [u16]) -> u8
-    ensures { Fills s values.old result values.new }
+// The values of the sequential loop into a lent table, which has an entry for each iteration; or
+// the first refusal, 2 to 14, with no entry changed.
+pub fn fill(s: LoopNest, values: &mut [u16]) -> Result<(), Refusal>
+    ensures { Fills s values.old (number_in result) values.new }
 {
-    let known = nest::inspect(s);
-    let refusal = known.refusal;
-    let iterations = known.iterations;
-    if refusal != 0 {
-        return refusal;
-    }
-    if values.len() < iterations {
-        return SHORT_BUFFER;
-    }
-    fill_values(s, iterations, values);
-    0
+    let accepted = nest::accept(s)?;
+    nest::check_room(accepted.iterations, &[values.len()])?;
+    fill_values(&accepted, values);
+    Ok(())
 }

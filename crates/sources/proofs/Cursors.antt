@@ -2,14 +2,16 @@
 use mathlib.Core.Path.{◌≡◌, refl, sym, ap, ap₂, subst, subst₂, ◌∙◌}
 use mathlib.Core.List.{List, [], ◌++◌, map}
 use mathlib.Core.Logic.{⊎_elim}
-use Prim.Native.Nat.{ℕ, zero, suc, ◌+◌, ◌^◌, ◌<◌, ◌≤◌, zero-le}
+use Prim.Native.Nat.{ℕ, zero, suc, ◌+◌, ◌-◌, ◌^◌, ◌<◌, ◌≤◌, zero-le}
 use native.Mathlib.Omega.{arith}
 use borrow.Author.Tests.{eqb-true, eqb-false}
 use lib.Dec.{eqb}
 use lib.IntN.{ℤ, pos, nat_abs, ◌-ℤ◌}
-use lib.ListN.{length, get_or, set, take, replicate, length-append, get_or-eq_default}
+use lib.ListN.{length, length-map, get_or, set, take, replicate, length-append, get_or-eq_default}
 use lib.Seq.{get_or-set_same, get_or-set_other, set_out, take_at}
 use lib.Signed.{◌≤ℤ◌, ◌<ℤ◌}
+use Rattle.std.specs.Prelude.{Option, None, Some, MatchOption}
+use Rattle.std.specs.Option.{unwrap_or}
 use Rattle.integers.proofs.Linear.{ints, dif}
 use Rattle.integers.specs.Lists.{place}
 use Rattle.integers.proofs.Lists.{split, below_or_not}
@@ -70,6 +72,11 @@ module _ (ks distances : List ℤ) (m : ℕ) where
       let c = b i l in
       omega arith
 
+-- what is found as a place, n where it is none of n
+pub found-place : (o : Option ℕ) (n source : ℕ) → MatchOption o (source ≡ n) (λ j. (j < n) × (j ≡ source)) → unwrap_or o n ≡ source
+found-place None n source h = sym h
+found-place (Some j) n source h = h.1
+
 -- ---- an accepted nest
 module _ (s : LoopNest) (ok : refusal s ≡ 0) where
   -- the front of the table that `keys_into` writes
@@ -129,7 +136,12 @@ pub record OfNest (s : LoopNest) (keys : List ℤ) (m : ℕ) (distances : List �
   -- the number of its dependences
   pub count : m ≡ count_of s
   -- and their keys
-  pub distances_are : distances ≡ padded max_dependences (distances_of s)
+  pub distances_are : distances ≡ distances_of s
+
+-- the slice of the distances that `distances_of` answers
+pub distances-front : (s : LoopNest) → refusal s ≡ 0 → (m : ℕ) → m ≡ count_of s → take m (padded max_dependences (distances_of s)) ≡ distances_of s
+unfolding distances_of padded
+distances-front s ok m e = take_at (map key (dependences_of s)) (replicate (max_dependences - length (map key (dependences_of s))) (pos 0)) m (length-map (dependences_of s) key ∙ dependences_count s ∙ sym e)
 
 module _ (s : LoopNest) (keys : List ℤ) (m : ℕ) (distances : List ℤ) (K : OfNest s keys m distances) where
   -- there is a key for each iteration
@@ -142,8 +154,11 @@ module _ (s : LoopNest) (keys : List ℤ) (m : ℕ) (distances : List ℤ) (K : 
 
   -- sources can be searched for
   pub keyed_search : (i : ℕ) → i < m → Searchable keys (get_or distances i (pos 0))
-  keyed_search i h = subst₂ (λ (ks ds : List ℤ). Searchable ks (get_or ds i (pos 0))) (sym K.keys_are) (sym K.distances_are) (nest_searchable s K.accepted i (subst (λ n. i < n) K.count h))
+  keyed_search i h =
+      subst₂ (λ (ks : List ℤ) (d : ℤ). Searchable ks d) (sym K.keys_are) (at-padded max_dependences (distances_of s) i ∙ ap (λ (ds : List ℤ). get_or ds i (pos 0)) (sym K.distances_are))
+      (nest_searchable s K.accepted i (subst (λ n. i < n) K.count h))
 
   -- and what is found is the rank of the source
   pub keyed-source : (k i : ℕ) → k < length (points_of s) → i < m → source_in keys k (get_or distances i (pos 0)) ≡ rank (points_of s) (source (point s k) (dependence s i))
-  keyed-source k i hk hi = ap₂ (λ (ks ds : List ℤ). source_in ks k (get_or ds i (pos 0))) K.keys_are K.distances_are ∙ nest-source s K.accepted k i hk (subst (λ n. i < n) K.count hi)
+  keyed-source k i hk hi =
+      ap₂ (λ (ks : List ℤ) (d : ℤ). source_in ks k d) K.keys_are (ap (λ (ds : List ℤ). get_or ds i (pos 0)) K.distances_are ∙ sym (at-padded max_dependences (distances_of s) i)) ∙ nest-source s K.accepted k i hk (subst (λ n. i < n) K.count hi)

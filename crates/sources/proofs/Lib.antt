@@ -7,3 +7,4 @@ pub mod NestKeys
 pub mod Arrays
 pub mod Walk
 pub mod Cursors
+pub mod Steps

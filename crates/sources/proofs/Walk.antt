@@ -2,17 +2,19 @@
 -- a table that is written from a place on. Nothing else in this crate speaks of limits. Assumes nothing.
 use mathlib.Core.Path.{◌≡◌, refl, sym, ap, ap₂, subst, ◌∙◌}
 use mathlib.Core.Bool.{false}
-use mathlib.Core.List.{List, [], ◌∷◌, ◌++◌, map, flat_map, map-append}
+use mathlib.Core.List.{List, [], ◌∷◌, ◌++◌, map, flat_map, map-append, append_assoc, append-nil}
 use Prim.Native.Nat.{ℕ, zero, suc, ◌+◌, ◌*◌, ◌-◌, ◌^◌, ◌<◌, ◌≤◌}
 use native.Mathlib.Nat as NatL
 use native.Mathlib.Numerals.{add-one}
 use native.Mathlib.Omega.{arith}
 use lib.IntN.{ℤ, pos, nat_abs, ◌+ℤ◌, ◌*ℤ◌, +ℤ_assoc}
-use lib.ListN.{length, get_or, set, drop, length-map}
-use lib.Seq.{sets, length-sets, sets-eq}
+use lib.ListN.{length, get_or, set, take, drop, length-map}
+use Rattle.std.proofs.lemmas.List.{length-append, length-take, length-take-le, length-drop, get_or-take, take_at, drop_at, drop-drop, drop_more, drop_all, take_rest, set_at, take-map}
+use borrow.Rule.Slice.PartMut.{put_mid}
+use Rattle.std.proofs.lemmas.Slice.{first_rest}
 use Rattle.integers.proofs.Bounds.{abs-+, abs-*}
 use Rattle.integers.specs.Lists.{any, tab}
-use Rattle.integers.proofs.Lists.{tab-more, tab-cons, tab-same, length-tab, any_append, any-one, or_false, flat_map-tab-more, flat_map-length}
+use Rattle.integers.proofs.Lists.{tab-more, get_or-tab, tab-list, map-tab, length-tab, any_append, any-one, or_false, flat_map-tab-more, flat_map-length}
 use Rattle.integers.specs.Vector.{Vector}
 use Rattle.nest.specs.declared.LoopNest.{LoopNest}
 use Rattle.nest.specs.Nest.{Limit, depth_of, limit_at, limits_of, max_depth, max_limit}
@@ -22,8 +24,9 @@ use Rattle.nest.proofs.Accepted.{none-crossed}
 use Rattle.nest.proofs.Conditions.{index_in_span}
 use Rattle.nest.proofs.Order.{point-count, index-within}
 use Rattle.sources.specs.Keys.{base, key_from, key, max_key, keys_of}
-use Rattle.sources.specs.Loops.{limits_from}
-use Rattle.sources.proofs.Arrays.{power-most, keys_length}
+use Rattle.sources.specs.declared.Limits.{Limits}
+use Rattle.sources.specs.Loops.{limit_of, limits_in}
+use Rattle.sources.proofs.Arrays.{power-most}
 
 -- ---- the digits of the outer indices
 
@@ -81,163 +84,189 @@ each-length ls f n = flat_map-length (λ b. map (key_from b) (points ls)) f (poi
 
 -- ---- limits
 
-module _ (lower upper : List ℤ) (k n : ℕ) where
-  -- loop k in front of those inside it
-  pub limits-cons : limits_from lower upper k (suc n) ≡ limit_at lower upper k ∷ limits_from lower upper (k + 1) n
-  limits-cons =
-      tab-cons (λ i. limit_at lower upper (k + i)) n
-      ∙ ap₂ (λ (j : ℕ) (ls : List Limit). limit_at lower upper j ∷ ls) (omega arith) (tab-same (λ i. limit_at lower upper (k + suc i)) (λ i. limit_at lower upper ((k + 1) + i)) n (λ i h. ap (limit_at lower upper) (omega arith)))
+-- a loop that is not there
+abbrev pub no_loop : Limits
+no_loop = record { lower = pos 0; upper = pos 0 }
 
-  -- none of them has crossed limits
-  pub cons-crossed : any crossed (limits_from lower upper k (suc n)) ≡ false → (crossed (limit_at lower upper k) ≡ false) × (any crossed (limits_from lower upper (k + 1) n) ≡ false)
-  cons-crossed h =
-      let b = or_false (any crossed (limit_at lower upper k ∷ [])) (any crossed (limits_from lower upper (k + 1) n)) (sym (any_append crossed (limit_at lower upper k ∷ []) (limits_from lower upper (k + 1) n)) ∙ ap (any crossed) (sym limits-cons) ∙ h) in
-      (sym (any-one crossed (limit_at lower upper k)) ∙ b.0, b.1)
+-- the outermost of some loops
+abbrev pub outer_of : List Limits → Limits
+outer_of ls = get_or ls 0 no_loop
 
-  -- the number of their points
-  pub cons-count : point_count (limits_from lower upper k (suc n)) ≡ extent (limit_at lower upper k) * point_count (limits_from lower upper (k + 1) n)
-  unfolding point_count
-  cons-count = ap point_count limits-cons
+-- the loops inside it
+abbrev pub inner_of : List Limits → List Limits
+inner_of ls = take (length ls - 1) (drop 1 ls)
 
-  -- their points' keys
-  pub cons-keys : (a : ℤ) → map (key_from a) (points (limits_from lower upper k (suc n))) ≡ behind_each (points (limits_from lower upper (k + 1) n)) (prefixes a (get_or lower k (pos 0))) (extent (limit_at lower upper k))
-  cons-keys a = ap (λ ls. map (key_from a) (points ls)) limits-cons ∙ keys-cons a (limit_at lower upper k) (limits_from lower upper (k + 1) n)
-
--- the loops from k on as loop k and those inside it
-pub record Split (lower upper : List ℤ) (k left : ℕ) : Type 0 where
-  -- the limits of loop k are not crossed
-  pub fine : crossed (limit_at lower upper k) ≡ false
+-- some loops as the outermost and those inside it
+pub record Split (ls : List Limits) : Type 0 where
+  -- one loop less
+  pub fewer : length (inner_of ls) + 1 ≡ length ls
+  -- the limits of the outermost are not crossed
+  pub fine : crossed (limit_of (outer_of ls)) ≡ false
   -- nor those of a loop inside it
-  pub inner_fine : any crossed (limits_from lower upper (k + 1) (left - 1)) ≡ false
+  pub inner_fine : any crossed (limits_in (inner_of ls)) ≡ false
   -- the number of points
-  pub count : point_count (limits_from lower upper k left) ≡ extent (limit_at lower upper k) * point_count (limits_from lower upper (k + 1) (left - 1))
+  pub count : point_count (limits_in ls) ≡ extent (limit_of (outer_of ls)) * point_count (limits_in (inner_of ls))
   -- their keys, behind a prefix
-  pub keys : (a : ℤ) → map (key_from a) (points (limits_from lower upper k left)) ≡ behind_each (points (limits_from lower upper (k + 1) (left - 1))) (prefixes a (get_or lower k (pos 0))) (extent (limit_at lower upper k))
+  pub keys : (a : ℤ) → map (key_from a) (points (limits_in ls)) ≡ behind_each (points (limits_in (inner_of ls))) (prefixes a (outer_of ls).lower) (extent (limit_of (outer_of ls)))
 
 -- they can be split so
-pub split_loops : (lower upper : List ℤ) (k left : ℕ) → 1 ≤ left → any crossed (limits_from lower upper k left) ≡ false → Split lower upper k left
-split_loops lower upper k zero h f = absurd (omega arith)
-split_loops lower upper k (suc n) h f =
-    let e : suc n - 1 ≡ n = omega arith in
-    let c = cons-crossed lower upper k n f in
-    record {
-      fine = c.0;
-      inner_fine = rw e c.1;
-      count = rw e (cons-count lower upper k n);
-      keys = λ a. rw e (cons-keys lower upper k n a);
-    }
+pub split_loops : (ls : List Limits) → 1 ≤ length ls → any crossed (limits_in ls) ≡ false → Split ls
+split_loops ls h f = record {
+  fewer = simp (length-take, length-drop) (omega arith);
+  fine = sym (any-one crossed l) ∙ b.0;
+  inner_fine = b.1;
+  count = unfold point_count in ap point_count e;
+  keys = λ a. ap (λ ms. map (key_from a) (points ms)) e ∙ keys-cons a l rest;
+}
+  where
+    l : Limit
+    l = limit_of (outer_of ls)
 
--- where no loop is inside it there are as many points as indices
-pub row_count : (lower upper : List ℤ) (k : ℕ) → Split lower upper k 1 → point_count (limits_from lower upper k 1) ≡ extent (limit_at lower upper k)
-unfolding tab point_count
-row_count lower upper k S = S.count ∙ omega arith
+    rest : List Limit
+    rest = limits_in (inner_of ls)
+
+    e : limits_in ls ≡ l ∷ rest
+    e = ap (map limit_of) (first_rest ls no_loop (omega arith))
+
+    b : (any crossed (l ∷ []) ≡ false) × (any crossed rest ≡ false)
+    b = or_false (any crossed (l ∷ [])) (any crossed rest) (sym (any_append crossed (l ∷ []) rest) ∙ ap (any crossed) (sym e) ∙ f)
+
+-- where no loop is inside it
+pub only-loop : (ls : List Limits) → length ls ≡ 1 → limits_in ls ≡ limit_of (outer_of ls) ∷ []
+only-loop [] h = absurd (omega arith)
+only-loop (l ∷ []) h = refl
+only-loop (l ∷ m ∷ ls) h = absurd (omega arith)
+
+-- there are as many points as indices
+pub row_count : (l : Limit) → point_count (l ∷ []) ≡ extent l
+unfolding point_count
+row_count l = omega arith
 
 -- and their keys are in a row
-pub row_is : (lower upper : List ℤ) (k : ℕ) (a : ℤ) → Split lower upper k 1 → map (key_from a) (points (limits_from lower upper k 1)) ≡ tab (prefixes a (get_or lower k (pos 0))) (extent (limit_at lower upper k))
-unfolding tab
-row_is lower upper k a S = S.keys a ∙ row-keys (prefixes a (get_or lower k (pos 0))) (extent (limit_at lower upper k))
+pub row_is : (l : Limit) (a : ℤ) → map (key_from a) (points (l ∷ [])) ≡ tab (prefixes a l.lower) (extent l)
+row_is l a = keys-cons a l [] ∙ row-keys (prefixes a l.lower) (extent l)
 
--- ---- tables written from a place on
+-- ---- tables that are written from the front on
 
--- two lists of entries, one behind the other
-pub sets-append : (l : List ℤ) (i : ℕ) (xs ys : List ℤ) → sets l i (xs ++ ys) ≡ sets (sets l i xs) (i + length xs) ys
-sets-append l i [] ys = ap (λ (k : ℕ). sets l k ys) (omega arith)
-sets-append l i (x ∷ xs) ys = sets-append (set l i x) (suc i) xs ys ∙ ap (λ (k : ℕ). sets (sets (set l i x) (suc i) xs) k ys) (omega arith)
+module _ {A : Type 0} (d : A) (old cur : List A) (f : ℕ → A) (q : ℕ) where
+  -- one entry more
+  pub filled_more : q < length old → cur ≡ tab f q ++ drop q old → set cur q (f q) ≡ tab f (q + 1) ++ drop (q + 1) old
+  filled_more h e =
+      ap (λ t. set t q (f q)) (e ∙ ap (λ t. tab f q ++ t) (drop_more old q d h)) ∙ set_at (tab f q) (get_or old q d) (drop (q + 1) old) (f q) q (length-tab f q)
+      ∙ sym (append_assoc (tab f q) (f q ∷ []) (drop (q + 1) old)) ∙ ap (λ t. t ++ drop (q + 1) old) (sym (tab-more f q))
 
--- one entry of a row more
-pub row_more : (old : List ℤ) (at : ℕ) (f : ℕ → ℤ) (q : ℕ) → set (sets old at (tab f q)) (at + q) (f q) ≡ sets old at (tab f (q + 1))
-row_more old at f q = sym (ap (sets old at) (tab-more f q) ∙ sets-append old at (tab f q) (f q ∷ []) ∙ ap (λ j. set (sets old at (tab f q)) (at + j) (f q)) (length-tab f q))
+  -- all entries
+  pub filled-all : length old ≤ q → cur ≡ tab f q ++ drop q old → cur ≡ tab f q
+  filled-all h e = e ∙ ap (λ t. tab f q ++ t) (drop_all q old h) ∙ append-nil (tab f q)
 
--- the points behind one prefix more
-pub walk_more : (old : List ℤ) (at : ℕ) (ls : List Limit) (f : ℕ → ℤ) (q : ℕ)
-    → sets (sets old at (behind_each (points ls) f q)) (at + q * point_count ls) (map (key_from (f q)) (points ls)) ≡ sets old at (behind_each (points ls) f (q + 1))
-walk_more old at ls f q =
-    sym (ap (sets old at) (flat_map-tab-more (λ b. map (key_from b) (points ls)) f q)
-    ∙ sets-append old at (behind_each (points ls) f q) (map (key_from (f q)) (points ls))
-    ∙ ap (λ j. sets (sets old at (behind_each (points ls) f q)) (at + j) (map (key_from (f q)) (points ls))) (each-length ls f q))
+-- the keys of a row, with what stands behind them
+pub row_done : (l : Limit) (a f : ℤ) (count : ℕ) (old row : List ℤ) → f ≡ a *ℤ pos base +ℤ l.lower → count ≡ extent l → extent l ≤ length old → row ≡ tab (λ q. f +ℤ pos q) (length (take count old))
+    → row ++ drop count old ≡ map (key_from a) (points (l ∷ [])) ++ drop (extent l) old
+row_done l a f count old row p e h r =
+    let n : length (take count old) ≡ extent l = length-take-le count old (omega arith) ∙ e in
+    ap₂ (λ (s : List ℤ) (i : ℕ). s ++ drop i old) (r ∙ ap₂ (λ (z : ℤ) (i : ℕ). tab (λ q. z +ℤ pos q) i) p n ∙ sym (row_is l a)) e
+
+-- a list written behind another, into the rest of a table
+pub written_behind : (front xs old cur sub : List ℤ) (w p : ℕ) → length front ≡ w → length xs ≡ p → cur ≡ front ++ drop w old → sub ≡ xs ++ drop p (take (length cur - w) (drop w cur))
+    → put_mid w (length cur - w) cur sub ≡ (front ++ xs) ++ drop (w + p) old
+written_behind front xs old cur sub w p l m e n =
+    ap (λ t. take w cur ++ (sub ++ t)) (drop_all (length cur - w) (drop w cur) (simp length-drop (omega arith))) ∙ ap (λ t. take w cur ++ t) (append-nil sub ∙ n ∙ ap (λ t. xs ++ drop p t) (take_rest cur w))
+    ∙ ap₂ (λ (s t : List ℤ). s ++ (xs ++ drop p t)) (ap (take w) e ∙ take_at front (drop w old) w l) (ap (drop w) e ∙ drop_at front (drop w old) w l)
+    ∙ sym (append_assoc front xs (drop p (drop w old))) ∙ ap (λ t. (front ++ xs) ++ t) (drop-drop p w old)
 
 -- no prefix yet
-pub walk_none : (old : List ℤ) (at : ℕ) (ls : List Limit) (f : ℕ → ℤ) → old ≡ sets old at (behind_each (points ls) f 0)
+pub walk_none : (old : List ℤ) (ls : List Limit) (f : ℕ → ℤ) → old ≡ behind_each (points ls) f 0 ++ drop 0 old
 unfolding tab flat_map
-walk_none old at ls f = refl
+walk_none old ls f = refl
 
--- ---- the ways through `keys_from`, over loop k and the loops inside it
-module _ (lower upper : List ℤ) (k left : ℕ) (a : ℤ) (S : Split lower upper k left) (old : List ℤ) (at : ℕ) where
-  -- the limits of loop k
-  abbrev loop : Limit
-  loop = limit_at lower upper k
+-- ---- the ways through `keys_from`
+module _ (ls : List Limits) (a : ℤ) (S : Split ls) (old : List ℤ) where
+  -- the limits of the outermost loop
+  abbrev outer : Limit
+  outer = limit_of (outer_of ls)
 
   -- those of the loops inside it
   abbrev inner : List Limit
-  inner = limits_from lower upper (k + 1) (left - 1)
+  inner = limits_in (inner_of ls)
 
-  -- the digits with the lowest index of loop k
+  -- the digits with its lowest index
   abbrev first : ℤ
-  first = a *ℤ pos base +ℤ get_or lower k (pos 0)
+  first = a *ℤ pos base +ℤ outer.lower
 
   -- what the walk over these loops answers and leaves
-  abbrev Done : ℕ → List ℤ → Type 0
-  Done r new = (r ≡ at + point_count (limits_from lower upper k left)) × (new ≡ sets old at (map (key_from a) (points (limits_from lower upper k left))))
+  abbrev pub Done : ℕ → List ℤ → Type 0
+  Done r new = (r ≡ point_count (limits_in ls)) × (new ≡ map (key_from a) (points (limits_in ls)) ++ drop (point_count (limits_in ls)) old)
 
   -- the loops inside, behind the first q indices
   abbrev pub WalkedTo : ℤ → ℕ → ℕ → List ℤ → Type 0
-  WalkedTo f q next cur = (next ≡ at + q * point_count inner) × (cur ≡ sets old at (behind_each (points inner) (λ i. f +ℤ pos i) q))
+  WalkedTo f q written cur = (written ≡ q * point_count inner) × (cur ≡ behind_each (points inner) (λ i. f +ℤ pos i) q ++ drop written old)
 
   -- one index more
-  pub walk_turn : (f h : ℤ) (q next r : ℕ) (cur new : List ℤ) → WalkedTo f q next cur → h ≡ f +ℤ pos q → r ≡ next + point_count inner → new ≡ sets cur next (map (key_from h) (points inner)) → WalkedTo f (q + 1) r new
-  walk_turn f h q next r cur new w e p n =
-      let g : ℕ → ℤ = λ i. f +ℤ pos i in (
-        omega (arith, w.0, NatL.suc-mul q (point_count inner), ap (λ m. m * point_count inner) (add-one q)),
-        n ∙ ap (λ (z : ℤ). sets cur next (map (key_from z) (points inner))) e ∙ ap₂ (λ (l : List ℤ) (m : ℕ). sets l m (map (key_from (g q)) (points inner))) w.1 w.0
-            ∙ walk_more old at inner g q,
+  pub walk_turn : (f h : ℤ) (q written r : ℕ) (cur sub : List ℤ) → WalkedTo f q written cur → h ≡ f +ℤ pos q → r ≡ point_count inner
+      → sub ≡ map (key_from h) (points inner) ++ drop (point_count inner) (take (length cur - written) (drop written cur)) → WalkedTo f (q + 1) (written + r) (put_mid written (length cur - written) cur sub)
+  walk_turn f h q written r cur sub w e p n =
+      let g : ℕ → ℤ = λ i. f +ℤ pos i in
+      let xs : List ℤ = map (key_from (g q)) (points inner) in
+      let front : List ℤ = behind_each (points inner) g q in (
+        omega (arith, w.0, p, NatL.suc-mul q (point_count inner), ap (λ m. m * point_count inner) (add-one q)),
+        written_behind front xs old cur sub written (point_count inner) (each-length inner g q ∙ sym w.0) (length-map (points inner) (key_from (g q)) ∙ point-count inner) w.1
+            (n ∙ ap (λ (z : ℤ). map (key_from z) (points inner) ++ drop (point_count inner) (take (length cur - written) (drop written cur))) e)
+            ∙ ap₂ (λ (s : List ℤ) (i : ℕ). s ++ drop i old) (sym (flat_map-tab-more (λ b. map (key_from b) (points inner)) g q)) (ap (λ i. written + i) (sym p)),
       )
 
   -- all indices
-  pub walk_out : (f : ℤ) (n q next : ℕ) (cur : List ℤ) → WalkedTo f q next cur → f ≡ first → n ≡ extent loop → q ≤ n → n ≤ q → Done next cur
-  walk_out f n q next cur w p e l m =
-      let z : q ≡ extent loop = omega arith in (
-        omega (arith, w.0, S.count, ap (λ i. i * point_count inner) z),
-        w.1 ∙ ap₂ (λ (x : ℤ) (i : ℕ). sets old at (behind_each (points inner) (λ j. x +ℤ pos j) i)) p z ∙ ap (sets old at) (sym (S.keys a)),
+  pub walk_out : (f : ℤ) (n q written : ℕ) (cur : List ℤ) → WalkedTo f q written cur → f ≡ first → n ≡ extent outer → q ≤ n → n ≤ q → Done written cur
+  walk_out f n q written cur w p e l m =
+      let z : q ≡ extent outer = omega arith in
+      let c : written ≡ point_count (limits_in ls) = omega (arith, w.0, S.count, ap (λ i. i * point_count inner) z) in (
+        c,
+        w.1 ∙ ap₂ (λ (x : ℤ) (i : ℕ). behind_each (points inner) (λ j. x +ℤ pos j) i ++ drop written old) p z ∙ ap₂ (λ (s : List ℤ) (i : ℕ). s ++ drop i old) (sym (S.keys a)) c,
       )
 
   -- the place behind the first q is in the table, with those of one more
-  pub walk_room : (f : ℤ) (q next : ℕ) (cur : List ℤ) → WalkedTo f q next cur → q < extent loop → at + point_count (limits_from lower upper k left) ≤ length old → next + point_count inner ≤ length cur
-  walk_room f q next cur w l h =
-      let m = NatL.mul-le-mul_right {m = suc q} {n = extent loop} (point_count inner) l in
-      omega (arith, w.0, S.count, NatL.suc-mul q (point_count inner), ap length w.1 ∙ length-sets old at (behind_each (points inner) (λ i. f +ℤ pos i) q))
+  pub walk_room : (f : ℤ) (q written : ℕ) (cur : List ℤ) → WalkedTo f q written cur → q < extent outer → point_count (limits_in ls) ≤ length old → written + point_count inner ≤ length cur
+  walk_room f q written cur w l h =
+      let m = NatL.mul-le-mul_right {m = suc q} {n = extent outer} (point_count inner) l in
+      omega (arith, w.0, S.count, NatL.suc-mul q (point_count inner), ap length w.1 ∙ length-append (behind_each (points inner) (λ i. f +ℤ pos i) q) (drop written old), each-length inner (λ i. f +ℤ pos i) q, length-drop written old)
 
   -- the digits with one index more are in span
-  pub next_prefix : (q : ℕ) → q < extent loop → nat_abs a + nat_abs a < base ^ k → nat_abs (first +ℤ pos q) + nat_abs (first +ℤ pos q) < base ^ (k + 1)
-  next_prefix q l h =
-      let w = index-within loop q l in
-      let x = get_or lower k (pos 0) +ℤ pos q in
-      subst (λ (z : ℤ). nat_abs z + nat_abs z < base ^ (k + 1)) (sym (+ℤ_assoc (a *ℤ pos base) (get_or lower k (pos 0)) (pos q)))
-      (prefix_size a x k h (index_in_span loop.lower loop.upper x S.fine w.0 w.1))
-
--- a table written from its front on
-pub sets-front : (old xs : List ℤ) → length xs ≤ length old → sets old 0 xs ≡ xs ++ drop (length xs) old
-sets-front old xs h = sets-eq xs old 0 (omega arith) ∙ ap (λ k. xs ++ drop k old) (NatL.zero-add (length xs))
+  pub next_prefix : (k q : ℕ) → q < extent outer → nat_abs a + nat_abs a < base ^ k → nat_abs (first +ℤ pos q) + nat_abs (first +ℤ pos q) < base ^ (k + 1)
+  next_prefix k q l h =
+      let w = index-within outer q l in
+      let x = outer.lower +ℤ pos q in
+      subst (λ (z : ℤ). nat_abs z + nat_abs z < base ^ (k + 1)) (sym (+ℤ_assoc (a *ℤ pos base) outer.lower (pos q)))
+      (prefix_size a x k h (index_in_span outer.lower outer.upper x S.fine w.0 w.1))
 
 -- ---- all loops of a nest
 
+-- the first of the entries
+take-tab : {A : Type 0} (f : ℕ → A) (n k : ℕ) → k ≤ n → take k (tab f n) ≡ tab f k
+take-tab f n k h =
+    sym (tab-list f (take k (tab f n)) (f 0) k (length-take-le k (tab f n) (omega (arith, length-tab f n))) (λ i l. sym (get_or-take k (tab f n) i (f 0) l ∙ get_or-tab f n i (f 0) (omega arith))))
+
 module _ (s : LoopNest) where
-  -- all loops, from loop 0 on
-  all-limits : limits_from s.lower s.upper 0 (depth_of s) ≡ limits_of s
+  -- the limits of all places
+  abbrev pub places_of : ℕ → Limits
+  places_of k = record { lower = get_or s.lower k (pos 0); upper = get_or s.upper k (pos 0) }
+
+  pub all-places : (ls : List Limits) → ls ≡ tab places_of max_depth → map limit_of ls ≡ tab (limit_at s.lower s.upper) max_depth
+  all-places ls e = ap (map limit_of) e ∙ map-tab limit_of places_of max_depth
+
+  -- the first of the loops that stand in an array
+  pub all-limits : (ls : List Limits) → map limit_of ls ≡ tab (limit_at s.lower s.upper) max_depth → (n : ℕ) → n ≡ depth_of s → depth_of s ≤ max_depth → limits_in (take n ls) ≡ limits_of s
   unfolding limits_of
-  all-limits = tab-same (λ i. limit_at s.lower s.upper (0 + i)) (limit_at s.lower s.upper) (depth_of s) (λ i h. ap (limit_at s.lower s.upper) (NatL.zero-add i))
+  all-limits ls e n d m = sym (take-map limit_of n ls) ∙ ap₂ (λ (i : ℕ) (t : List Limit). take i t) d e ∙ take-tab (limit_at s.lower s.upper) max_depth (depth_of s) m
 
   -- none has crossed limits, of an accepted nest
-  pub all-fine : refusal s ≡ 0 → any crossed (limits_from s.lower s.upper 0 (depth_of s)) ≡ false
-  all-fine ok = ap (any crossed) all-limits ∙ (unfold limits_of in none-crossed s ok)
+  pub all-fine : refusal s ≡ 0 → any crossed (limits_of s) ≡ false
+  all-fine ok = unfold limits_of in none-crossed s ok
 
   -- their points are the index points
-  pub all-count : point_count (limits_from s.lower s.upper 0 (depth_of s)) ≡ length (points_of s)
+  pub all-count : point_count (limits_of s) ≡ length (points_of s)
   unfolding points_of
-  all-count = ap point_count all-limits ∙ sym (point-count (limits_of s))
+  all-count = sym (point-count (limits_of s))
 
   -- so what the walk leaves is their keys, with what stood behind them
-  pub all-keys : (old new : List ℤ) → length (points_of s) ≤ length old → new ≡ sets old 0 (map (key_from (pos 0)) (points (limits_from s.lower s.upper 0 (depth_of s)))) → new ≡ keys_of s ++ drop (length (points_of s)) old
+  pub all-keys : (old new : List ℤ) → new ≡ map (key_from (pos 0)) (points (limits_of s)) ++ drop (point_count (limits_of s)) old → new ≡ keys_of s ++ drop (length (points_of s)) old
   unfolding keys_of key points_of
-  all-keys old new h e =
-      let n = keys_length s in
-      e ∙ ap (λ ls. sets old 0 (map (key_from (pos 0)) (points ls))) all-limits ∙ sets-front old (map key (points (limits_of s))) (omega arith) ∙ ap (λ m. map key (points (limits_of s)) ++ drop m old) n
+  all-keys old new e = e ∙ ap (λ m. map key (points (limits_of s)) ++ drop m old) all-count

@@ -1,9 +1,13 @@
 -- Serves the proofs alone: the loops that the walk over rectangular limits goes through.
 -- Assumes nothing.
-use Rattle.std.specs.Prelude.{List, ℕ, ◌+◌, ℤ}
-use Rattle.integers.specs.Lists.{tab}
-use Rattle.nest.specs.Nest.{Limit, limit_at}
+use Rattle.std.specs.Prelude.{List, map}
+use Rattle.nest.specs.Nest.{Limit}
+use Rattle.sources.specs.declared.Limits.{Limits}
 
--- the limits of n loops, from loop k on
-abbrev pub limits_from : List ℤ → List ℤ → ℕ → ℕ → List Limit
-limits_from lower upper k n = tab (λ i. limit_at lower upper (k + i)) n
+-- the limits of a loop
+abbrev pub limit_of : Limits → Limit
+limit_of l = record { lower = l.lower; upper = l.upper }
+
+-- the limits of some loops
+abbrev pub limits_in : List Limits → List Limit
+limits_in ls = map limit_of ls

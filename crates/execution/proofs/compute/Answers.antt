@@ -1,28 +1,68 @@
 -- `compute` meets its contract: a law of `EntryLaws` for each way out. Assumes nothing.
-use borrow.Author.Tests.{not-true, not-false}
+use mathlib.Core.Path.{refl, sym}
+use mathlib.Core.Option.{none, some}
+use Prim.Native.Nat.{◌<◌}
+use native.Mathlib.Omega.{arith}
+use Rattle.execution.proofs.FindingLaws.{taken-below}
 use Rattle.execution.proofs.EntryLaws.{no_processor, idle, waiting, computes}
 use Rattle.execution.proofs.compute.Goals as goal
+use Rattle.execution.proofs.compute.Goals.{In-Some}
+
+-- the iteration that is taken is one
+below : (c : In-Some) → c.in-Some.k < c.args.s.now.iterations
+below c =
+    let a = c.args in
+    taken-below a.tables.steps.now a.tables.processors.now a.state.done.now a.p a.s.now.iterations c.in-Some.k (sym c.in-Some.ensures)
 
 pub returns-then-processors_in-p : goal.returns-then-processors_in-p
 returns-then-processors_in-p c =
     let a = c.args in
-    let both = no_processor a.s a.steps.now a.processors.now a.values.now a.done.now a.delivered.now a.iterations c.requires.s_value.1 a.p c.processors_in.result c.processors_in.ensures.0 c.if-processors_in-p.true in
+    let s = a.s.now in
+    let t = a.tables in
+    let st = a.state in
+    let both = no_processor s.nest t.steps.now t.processors.now st.values.now st.done.now st.delivered.now s.iterations s.counted a.p c.processors_in.result c.processors_in.ensures.0 c.if-processors_in-p.true in
     record { answers = both.0; leaves = both.1 }
 
-pub returns-then-iterations-k : goal.returns-then-iterations-k
-returns-then-iterations-k c =
+pub returns-in_default : goal.returns-in_default
+returns-in_default c =
     let a = c.args in
-    let both = idle a.s a.steps.now a.processors.now a.values.now a.done.now a.delivered.now a.iterations c.requires.s_value.1 a.p c.processors_in.result c.next_iteration-k.result c.processors_in.ensures.0 c.if-processors_in-p.false c.next_iteration-k.ensures c.if-iterations-k.true in
+    let s = a.s.now in
+    let t = a.tables in
+    let st = a.state in
+    let both = idle s.nest t.steps.now t.processors.now st.values.now st.done.now st.delivered.now s.iterations s.counted a.p c.processors_in.result c.processors_in.ensures.0 c.if-processors_in-p.false none c.in_default.ensures refl in
     record { answers = both.0; leaves = both.1 }
+
+pub all_there-requires : goal.all_there-requires
+all_there-requires c = (refl, below (goal.at.all_there-requires c).In-Some)
+
+pub value_at-value-requires : goal.value_at-value-requires
+value_at-value-requires c = (below (goal.at.value_at-value-requires c).In-Some, c.requires.room.2)
+
+pub offset_bounds-values-k : goal.offset_bounds-values-k
+offset_bounds-values-k c = let h = below (goal.at.offset_bounds-values-k c).In-Some in omega (arith, c.requires.room.2)
+
+pub bounds-values-k : goal.bounds-values-k
+bounds-values-k c = let h = below (goal.at.bounds-values-k c).In-Some in omega (arith, c.requires.room.2)
+
+pub bounds-done-k : goal.bounds-done-k
+bounds-done-k c = let h = below (goal.at.bounds-done-k c).In-Some in omega (arith, c.requires.room.3)
 
 pub returns-then-not-all_there : goal.returns-then-not-all_there
 returns-then-not-all_there c =
     let a = c.args in
-    let both = waiting a.s a.steps.now a.processors.now a.values.now a.done.now a.delivered.now a.iterations c.requires.s_value.1 a.p c.processors_in.result c.next_iteration-k.result c.processors_in.ensures.0 c.if-processors_in-p.false c.next_iteration-k.ensures c.all_there.result c.if-iterations-k.false c.all_there.ensures (not-true _ c.if-not-all_there.true-raw) in
+    let s = a.s.now in
+    let t = a.tables in
+    let st = a.state in
+    let k = c.in-Some.k in
+    let both = waiting s.nest t.steps.now t.processors.now st.values.now st.done.now st.delivered.now s.iterations s.counted a.p c.processors_in.result c.processors_in.ensures.0 c.if-processors_in-p.false (some k) c.in-Some.ensures k refl c.all_there.result c.all_there.ensures c.if-not-all_there.true in
     record { answers = both.0; leaves = both.1 }
 
 pub returns : goal.returns
 returns c =
     let a = c.args in
-    let both = computes a.s a.steps.now a.processors.now a.values.now a.done.now a.delivered.now a.iterations c.requires.s_value.1 a.p c.processors_in.result c.next_iteration-k.result c.processors_in.ensures.0 c.if-processors_in-p.false c.next_iteration-k.ensures c.all_there.result c.value_at-value.result c.if-iterations-k.false c.all_there.ensures (not-false _ c.if-not-all_there.false-raw) c.value_at-value.ensures in
+    let s = a.s.now in
+    let t = a.tables in
+    let st = a.state in
+    let k = c.in-Some.k in
+    let both = computes s.nest t.steps.now t.processors.now st.values.now st.done.now st.delivered.now s.iterations s.counted a.p c.processors_in.result c.processors_in.ensures.0 c.if-processors_in-p.false (some k) c.in-Some.ensures k refl c.all_there.result c.all_there.ensures c.value_at-value.result c.if-not-all_there.false c.value_at-value.ensures in
     record { answers = both.0; leaves = both.1 }

@@ -1,54 +1,52 @@
 -- `deliver` meets its contract: a law of `EntryLaws` for each way out. Assumes nothing.
-use mathlib.Core.Path.{◌≡◌, ap, ◌∙◌}
 use Prim.Native.Nat.{◌<◌}
 use native.Mathlib.Omega.{arith}
-use Rattle.integers.proofs.Bounds.{told}
-use Rattle.nest.specs.Nest.{to_ℕ, count_of}
+use lib.ListN.{length}
+use Rattle.nest.specs.Nest.{count_of}
+use Rattle.nest.specs.Points.{points_of}
 use Rattle.nest.proofs.Accepted.{count_is}
-use Rattle.nest.proofs.PointLaws.{array_point, answer-is}
+use Rattle.nest.proofs.PointLaws.{array_point}
+use Rattle.execution.specs.Inner.{option_in}
+use Rattle.execution.proofs.SourceLaws.{source-is}
 use Rattle.execution.proofs.EntryLaws.{no_rank, no_dependence, delivers-from}
 use Rattle.execution.proofs.deliver.Goals as goal
-use Rattle.execution.proofs.deliver.Goals.{After-to_size, Else-to_size-i}
+use Rattle.execution.proofs.deliver.Goals.{Else-count-message, then-s-message-via-then-s-message, then-s-message-via-else-s-message+then-count-message}
 
--- the number of dependences
-dependences : (c : After-to_size) → c.to_size.result ≡ count_of c.args.s
-dependences c = c.to_size.ensures ∙ ap to_ℕ (told c.args.s.count c.struct_told-1.given.1.0.1)
+-- the iteration and the dependence are there
+one : (c : Else-count-message) → c.args.message.rank < length (points_of c.args.s.now.nest)
+one c = omega (arith, c.if-s-message.false, c.args.s.now.counted)
 
--- the dependence is one
-there : (c : Else-to_size-i) → c.args.i < count_of c.args.s
-there c = omega (arith, dependences (goal.at.Else-to_size-i c).After-to_size, c.if-to_size-i.false)
+there : (c : Else-count-message) → c.args.message.dependence < count_of c.args.s.now.nest
+there c = omega (arith, c.count.ensures, c.if-count-message.false)
 
-pub returns-then-iterations-k : goal.returns-then-iterations-k
-returns-then-iterations-k c =
+pub returns-then-s-message : goal.returns-then-s-message
+returns-then-s-message c =
     let a = c.args in
-    no_rank a.s a.processors.now a.done.now a.delivered.now a.iterations c.requires.s_value.1 a.k a.i c.if-iterations-k.true
+    let s = a.s.now in
+    let m = a.message in
+    elim c.then-s-message.branch [
+      | then-s-message-via-then-s-message w ↦ no_rank s.nest a.processors.now a.done.now a.delivered.now s.iterations s.counted m.rank m.dependence w.if-s-message.true
+      | then-s-message-via-else-s-message+then-count-message w ↦
+          no_dependence s.nest a.processors.now a.done.now a.delivered.now s.iterations s.counted m.rank m.dependence (omega (arith, w.count.ensures, w.if-count-message.true))
+    ]
 
-pub returns-then-to_size-i : goal.returns-then-to_size-i
-returns-then-to_size-i c =
-    let a = c.args in
-    no_dependence a.s a.processors.now a.done.now a.delivered.now a.iterations c.requires.s_value.1 a.k a.i c.to_size.result (dependences (goal.at.returns-then-to_size-i c).After-to_size) c.if-to_size-i.true
+pub source_at-source-requires : goal.source_at-source-requires
+source_at-source-requires c =
+    let s = c.args.s.now.nest in
+    let p = (goal.at.source_at-source-requires c).Else-count-message in
+    (array_point s c.args.message.rank c.point_of-point.result (one p) c.point_of-point.ensures, there p)
 
-pub point_of-point-requires : goal.point_of-point-requires
-point_of-point-requires c = (c.requires.s_value.0, omega (arith, c.requires.s_value.1, c.if-iterations-k.false))
-
-pub source_at-j-requires : goal.source_at-j-requires
-source_at-j-requires c =
-    (c.requires.s_value.0, array_point c.args.s c.args.k c.point_of-point.result (omega (arith, c.requires.s_value.1, c.if-iterations-k.false)) c.point_of-point.ensures, there (goal.at.source_at-j-requires c).Else-to_size-i)
-
-pub deliver_from-requires : goal.deliver_from-requires
-deliver_from-requires c =
-    let m = (count_is c.args.s c.requires.s_value.0).1 in
-    record {
-      k_lt_iterations = (c.if-iterations-k.false, omega (arith, there (goal.at.deliver_from-requires c).Else-to_size-i, m));
-      iterations_in_bounds = c.requires.iterations_in_bounds;
-    }
+pub deliver_from-requires-clause-place : goal.deliver_from-requires-clause-place
+deliver_from-requires-clause-place c =
+    let s = c.args.s.now in
+    (c.if-s-message.false, omega (arith, there (goal.at.deliver_from-requires-clause-place c).Else-count-message, (count_is s.nest s.accepted).1))
 
 pub returns : goal.returns
 returns c =
-    let f = c.deliver_from in
-    let j = c.source_at-j in
-    let x = c.point_of-point in
     let a = c.args in
-    let h = c.if-iterations-k.false in
-    delivers-from a.s a.processors.now a.done.now a.delivered.now a.iterations c.requires.s_value.1 a.k a.i j.result f.result f.new.delivered h (there (goal.at.returns c).Else-to_size-i)
-    (answer-is a.s a.k a.i j.result x.result (omega (arith, c.requires.s_value.1, h)) x.ensures j.ensures) f.ensures.value f.ensures.delivered_after
+    let s = a.s.now in
+    let m = a.message in
+    let f = c.deliver_from in
+    let p = (goal.at.returns c).Else-count-message in
+    delivers-from s.nest a.processors.now a.done.now a.delivered.now s.iterations s.counted m.rank m.dependence (option_in c.source_at-source.result) _ f.new.delivered c.if-s-message.false (there p)
+    (source-is s.nest m.rank m.dependence c.point_of-point.result (one p) c.point_of-point.ensures c.source_at-source.result c.source_at-source.ensures) f.ensures.value f.ensures.delivered_after

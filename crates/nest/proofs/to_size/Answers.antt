@@ -1,26 +1,23 @@
 -- `to_size` meets its contract. Assumes nothing.
-use mathlib.Core.Path.{◌≡◌, refl, ◌∙◌, ap}
+use mathlib.Core.Path.{◌≡◌, refl, ◌∙◌}
+use Prim.Native.Nat.{ℕ, ◌^◌, ◌<◌}
+use native.Mathlib.Omega.{arith}
 use lib.IntN.{ℤ, pos, negsuc, nat_abs}
-use lib.Signed.{◌<ℤ◌}
+use lib.Signed.{mag}
 use mir.Facts.{to_z-of_z}
-use Rattle.integers.proofs.Division.{need_cast}
-use Rattle.integers.proofs.Linear.{ints}
-use Rattle.integers.proofs.Tests.{signed}
+use Rattle.std.specs.Int.{FitsUnsignedBits}
+use Rattle.std.specs.Prelude.{Result, Ok, Err}
+use Rattle.std.specs.Result.{OkIff, result_unwrap_or}
 use Rattle.nest.specs.Nest.{to_ℕ}
-use Rattle.nest.proofs.Counted.{size_is}
 use Rattle.nest.proofs.to_size.Goals as goal
 
--- the size of a negative number
-size_below : (x : ℤ) → x <ℤ pos 0 → 0 ≡ to_ℕ x
+-- a number that is converted where it is not negative
+converted : {E : Type 0} (x : ℤ) (r : Result ℕ E) → mag x < 2 ^ 63 → OkIff r (FitsUnsignedBits 64 x) (nat_abs x) → result_unwrap_or r 0 ≡ to_ℕ x
 unfolding to_ℕ
-size_below (pos n) h = absurd (omega ints)
-size_below (negsuc n) h = refl
+converted (pos n) (Ok y) f h = h.1
+converted (pos n) (Err e) f h = absurd (h (omega (arith, f)))
+converted (negsuc n) (Ok y) f h = absurd h.0
+converted (negsuc n) (Err e) f h = refl
 
-pub overflow_cast-result : goal.overflow_cast-result
-overflow_cast-result c = need_cast c.ranges.x (omega (signed, to_z-of_z c.ranges.x))
-
-pub returns-then-x-lt0 : goal.returns-then-x-lt0
-returns-then-x-lt0 c = size_below c.args.x (omega (signed, to_z-of_z c.ranges.x))
-
-pub returns-else-x-lt0 : goal.returns-else-x-lt0
-returns-else-x-lt0 c = ap nat_abs (to_z-of_z c.ranges.x) ∙ size_is c.args.x (omega (signed, to_z-of_z c.ranges.x))
+pub returns : goal.returns
+returns c = c.unwrap_or.ensures ∙ converted c.args.x c.try_from.result c.ranges.x.sfits (rw (to_z-of_z c.ranges.x) at c.try_from.ensures)

@@ -1,76 +1,55 @@
 -- `read` answers the first refusal of a text, or its nest.
-use mathlib.Core.Path.{◌≡◌, sym, ap, ap₂, ◌∙◌}
-use mathlib.Core.List.{[]}
-use Prim.Native.Nat.{ℕ, ◌^◌, ◌<◌}
-use lib.IntN.{ℤ}
-use lib.Signed.{mag}
-use mir.Syntax.{w64}
-use mir.Val.{to_z, of_z}
-use borrow.Author.Tests.{not-true, not-false}
-use Rattle.integers.proofs.Bounds.{told}
-use Rattle.nest.specs.Nest.{to_ℕ, depth_of, count_of}
-use Rattle.nest_text.specs.Reader.{filled}
-use Rattle.nest_text.proofs.ReadLaws.{body-behind, first-refused, first-passed}
+use Rattle.std.proofs.Common.{rules, ◌≡◌, ◌∙◌, sym, ap, arith, None, Some, Ok, Err, refl}
+use Rattle.nest.specs.declared.refusals.Refusal.TheVariants.{MalformedText}
+use Rattle.nest.specs.Outcomes.{code, number_in}
+use Rattle.nest.proofs.Outcomes.{code-above}
+use Rattle.nest_text.specs.Answered.{reading_of}
+use Rattle.nest_text.proofs.ReadLaws.{Passed, refused_as, reading_out, body-behind, first-refused, first-passed}
 use Rattle.nest_text.proofs.read.Goals as goal
+use Rattle.nest_text.proofs.read.Goals.{In_ok-header}
 
--- the number of loops, or of dependences, that a nest says
-size : (n : ℕ) (z : ℤ) → mag z < 2 ^ 63 → n ≡ to_ℕ (to_z w64 (of_z w64 z)) → n ≡ to_ℕ z
-size n z h e = e ∙ ap to_ℕ (told z h)
+pub returns-in_err-header : goal.returns-in_err-header
+returns-in_err-header c =
+    let r = c.in_err-header.field-0.0 in
+    reading_out c.from_residual.result r c.from_residual.ensures.1
+    ∙ first-refused c.args.text.now (reading_of (Err r)) c.in_err-header.ensures (λ z. absurd (omega (arith, code-above r, z)))
 
-pub returns-then-first-ne0 : goal.returns-then-first-ne0
-returns-then-first-ne0 c = first-refused c.args.text.now c.read_header-first.result c.read_header-first.ensures c.if-first-ne0.true
+-- line 1 has passed
+passed : (c : In_ok-header) → Passed c.args.text.now c.in_ok-header.header
+passed c = first-passed c.args.text.now (reading_of (Ok c.in_ok-header.header)) c.in_ok-header.ensures refl
 
-pub slice_bounds-read_body-count : goal.slice_bounds-read_body-count
-slice_bounds-read_body-count c = (first-passed c.args.text.now c.read_header-first.result c.read_header-first.ensures c.if-first-ne0.false).room
+pub slice_bounds-behind-count : goal.slice_bounds-behind-count
+slice_bounds-behind-count c = (passed (goal.at.slice_bounds-behind-count c).In_ok-header).room
 
-pub slice_bounds-read_body-start : goal.slice_bounds-read_body-start
-slice_bounds-read_body-start c = (first-passed c.args.text.now c.read_header-first.result c.read_header-first.ensures c.if-first-ne0.false).room
+pub slice_bounds-behind-start : goal.slice_bounds-behind-start
+slice_bounds-behind-start c = (passed (goal.at.slice_bounds-behind-start c).In_ok-header).room
 
-pub read_body-body-requires : goal.read_body-body-requires
-read_body-body-requires c =
-    let p = first-passed c.args.text.now c.read_header-first.result c.read_header-first.ensures c.if-first-ne0.false in
-    let h = c.read_header-first.result.nest in
-    let n : c.to_size-n.result ≡ depth_of h = size c.to_size-n.result h.depth c.struct_told-1.given.0.1 c.to_size-n.ensures in
-    let m : c.to_size-m.result ≡ count_of h = size c.to_size-m.result h.count c.struct_told-2-1.given.1.0.1 c.to_size-m.ensures in (
-      rw n p.fits.depth_few,
-      rw m p.fits.count_few,
-      p.start ∙ ap₂ (λ (a b : ℕ). filled a b h.cube []) (sym n) (sym m),
-    )
+pub read_body-requires : goal.read_body-requires
+read_body-requires c =
+    let p = passed (goal.at.read_body-requires c).In_ok-header in
+    (p.fits.depth_few, p.fits.count_few, p.start)
 
-pub returns-then-not-body : goal.returns-then-not-body
-returns-then-not-body c =
-    let text = c.args.text.now in
-    let p = first-passed text c.read_header-first.result c.read_header-first.ensures c.if-first-ne0.false in
-    let h = c.read_header-first.result.nest in
-    let b = c.read_body-body.result in
-    let n = c.to_size-n.result in
-    let m = c.to_size-m.result in
-    let d : n ≡ depth_of h = size n h.depth c.struct_told-1.given.0.1 c.to_size-n.ensures in
-    let e : m ≡ count_of h = size m h.count c.struct_told-2-1.given.1.0.1 c.to_size-m.ensures in
-    c.refused.ensures ∙ p.malformed b (body-behind text h b n m d e c.read_body-body.ensures) (not-true b.ok c.if-not-body.true)
+pub returns-in_err-s : goal.returns-in_err-s
+returns-in_err-s c =
+    let p = passed (goal.at.returns-in_err-s c).In_ok-header in
+    let r : c.in_err-s.field-0.0 ≡ MalformedText = search rules in
+    let none : c.read_body.result ≡ None = search rules in
+    reading_out c.from_residual-in_err-s.result c.in_err-s.field-0.0 c.from_residual-in_err-s.ensures.1
+    ∙ ap (λ e. refused_as (code e)) r
+    ∙ p.malformed (body-behind c.args.text.now c.in_ok-header.header None (sym none ∙ c.read_body.ensures))
 
-pub returns-then-refusal-ne0 : goal.returns-then-refusal-ne0
-returns-then-refusal-ne0 c =
-    let text = c.args.text.now in
-    let p = first-passed text c.read_header-first.result c.read_header-first.ensures c.if-first-ne0.false in
-    let h = c.read_header-first.result.nest in
-    let b = c.read_body-body.result in
-    let n = c.to_size-n.result in
-    let m = c.to_size-m.result in
-    let d : n ≡ depth_of h = size n h.depth c.struct_told-1.given.0.1 c.to_size-n.ensures in
-    let e : m ≡ count_of h = size m h.count c.struct_told-2-1.given.1.0.1 c.to_size-m.ensures in
-    c.refused-then-refusal-ne0.ensures
-    ∙ p.refused_with b (body-behind text h b n m d e c.read_body-body.ensures) (not-false b.ok c.if-not-body.false)
-    c.check-refusal.result c.check-refusal.ensures c.if-refusal-ne0.true
+pub returns-in_err-check : goal.returns-in_err-check
+returns-in_err-check c =
+    let p = passed (goal.at.returns-in_err-check c).In_ok-header in
+    let r = c.in_err-check.field-0.0 in
+    let some : c.read_body.result ≡ Some c.in_ok-s.s = search rules in
+    reading_out c.from_residual-in_err-check.result r c.from_residual-in_err-check.ensures.1
+    ∙ p.refused_with c.in_ok-s.s (body-behind c.args.text.now c.in_ok-header.header (Some c.in_ok-s.s) (sym some ∙ c.read_body.ensures))
+    (code r) (sym (ap number_in c.in_err-check.was) ∙ c.check.ensures) (λ z. absurd (omega (arith, code-above r, z)))
 
 pub returns : goal.returns
 returns c =
-    let text = c.args.text.now in
-    let p = first-passed text c.read_header-first.result c.read_header-first.ensures c.if-first-ne0.false in
-    let h = c.read_header-first.result.nest in
-    let b = c.read_body-body.result in
-    let n = c.to_size-n.result in
-    let m = c.to_size-m.result in
-    let d : n ≡ depth_of h = size n h.depth c.struct_told-1.given.0.1 c.to_size-n.ensures in
-    let e : m ≡ count_of h = size m h.count c.struct_told-2-1.given.1.0.1 c.to_size-m.ensures in
-    p.accepted b (body-behind text h b n m d e c.read_body-body.ensures) (not-false b.ok c.if-not-body.false) (sym c.check-refusal.ensures ∙ c.if-refusal-ne0.false)
+    let p = passed (goal.at.returns c).In_ok-header in
+    let some : c.read_body.result ≡ Some c.in_ok-s.s = search rules in
+    p.accepted c.in_ok-s.s (body-behind c.args.text.now c.in_ok-header.header (Some c.in_ok-s.s) (sym some ∙ c.read_body.ensures))
+    (sym c.check.ensures ∙ ap number_in c.in_ok-check.was)

@@ -1,27 +1,33 @@
 -- `put_number` stores the line of its number.
 use native.Mathlib.Omega.{arith}
-use mathlib.Core.Path.{refl}
+use mathlib.Core.Path.{◌≡◌, refl, ap, ◌∙◌}
 use mathlib.Core.List.{[], ◌∷◌}
+use lib.IntN.{pos}
 use Rattle.integers.specs.Lists.{tab}
-use Rattle.planner.proofs.LineLaws.{AllSmall, nth_small, held, counts_fit, counts-stored, counts-length}
+use Rattle.integers.proofs.Bounds.{told}
+use Rattle.integers.proofs.Machine.{reads}
+use Rattle.planner.proofs.LineLaws.{AllSmall, nth_small, counts_fit, counts-stored, counts-length}
 use Rattle.plan.proofs.put_number.Goals as goal
-use Rattle.plan.proofs.put_number.Goals.{Start}
+use Rattle.plan.proofs.put_number.Goals.{Start, After-from}
 
 -- a byte is below 1000000
 small : (c : Start) → AllSmall (c.args.x ∷ [])
 small c = (omega arith, tt)
+
+stored : (c : After-from) → reads c.from.result ≡ pos c.args.x
+stored c = told c.from.result c.from.type_inv ∙ c.from.ensures
 
 pub put_line-requires : goal.put_line-requires
 unfolding tab
 put_line-requires c =
     let xs = c.args.x ∷ [] in
     let h = nth_small xs (small (goal.at.put_line-requires c).Start) in
-    (omega arith, (omega arith, counts_fit xs 1 refl h (held xs 1 refl h)))
+    (omega arith, counts_fit xs 1 refl h (ap (λ z. z ∷ []) (stored (goal.at.put_line-requires c).After-from)))
 
 pub returns : goal.returns
 unfolding tab
 returns c =
     let xs = c.args.x ∷ [] in
     let h = nth_small xs (small (goal.at.returns c).Start) in
-    let S = counts-stored xs 1 refl h (held xs 1 refl h) c.put_line.ensures in
+    let S = counts-stored xs 1 refl h (ap (λ z. z ∷ []) (stored (goal.at.returns c).After-from)) c.put_line.ensures in
     (omega (arith, S.ends, counts-length xs 1 refl h), S)

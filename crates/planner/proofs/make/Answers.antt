@@ -1,73 +1,57 @@
 -- `make` writes the four tables of an accepted nest and answers its counts.
-use mathlib.Core.Path.{◌≡◌, refl, sym, ap, ◌∙◌}
+use mathlib.Core.Path.{◌≡◌, refl, sym, ap, subst, ◌∙◌}
 use mathlib.Core.List.{◌++◌}
-use Prim.Native.Nat.{◌≤◌}
+use Prim.Native.Nat.{ℕ, ◌^◌, ◌<◌}
 use native.Mathlib.Omega.{arith}
-use lib.ListN.{length, take, drop, length-take}
+use lib.ListN.{length, take, drop}
+use Rattle.std.proofs.lemmas.List.{get_or-take, length-take-le}
+use Rattle.nest.specs.declared.accepted_nest.AcceptedNest.{AcceptedNest}
 use Rattle.nest.specs.Points.{points_of}
 use Rattle.nest.proofs.PointLaws.{few-points}
-use Rattle.sources.specs.Keys.{keys_of}
-use Rattle.sources.proofs.Cursors.{keys-front}
-use Rattle.partition.specs.Partition.{steps_of, blocks_of}
-use Rattle.mapping.specs.Mapping.{processors_of}
+use Rattle.partition.specs.Partition.{block_count, step_count}
+use Rattle.integers.specs.Lists.{tab, count, total}
+use Rattle.nest.specs.Nest.{count_of, max_cube}
+use Rattle.mapping.specs.Mapping.{processors_of, is_message}
+use Rattle.sequential.specs.Sequential.{loop, rule_of}
 use Rattle.planner.proofs.Bridge.{placed_room, placed_below, placed_processors, placed_messages, loop-values, answer-is}
 use Rattle.planner.proofs.make.Goals as goal
-use Rattle.planner.proofs.make.Goals.{After-keys_into, After-place_blocks-block_count, After-processor_count-processor_count, After-steps_into-step_count, Start}
+use Rattle.planner.proofs.make.Goals.{After-place_blocks-block_count}
 
--- the front of the table of keys
-front : (c : After-keys_into) → (c.args.iterations ≤ length c.keys_into.new.keys) × (take c.args.iterations c.keys_into.new.keys ≡ keys_of c.args.s)
-front c = let d = c in keys-front d.args.s d.requires.0 c.keys_into.new.keys _ d.args.iterations c.keys_into.ensures d.requires.1
+-- the processors that were placed
+placed : (c : After-place_blocks-block_count) → c.place_blocks-block_count.new.processors ≡ processors_of c.args.s.now.nest ++ drop c.args.s.now.iterations c.args.processors.now
+placed c = c.place_blocks-block_count.ensures.processors_after ∙ ap (λ (t : AcceptedNest). processors_of t.nest ++ drop t.iterations c.args.processors.now) c.new-keyed.ensures
 
-pub keys_into-requires : goal.keys_into-requires
-keys_into-requires c = (c.requires.0, few-points c.args.s c.requires.0)
-
-pub slice_bounds-table-end : goal.slice_bounds-table-end
-slice_bounds-table-end c = (front (goal.at.slice_bounds-table-end c).After-keys_into).0
-
-pub slice_bounds-keys-end : goal.slice_bounds-keys-end
-slice_bounds-keys-end c =
-    let l = length-take c.args.iterations c.keys_into.new.keys in
-    omega (arith, l, (front (goal.at.slice_bounds-keys-end c).After-keys_into).0)
-
-pub steps_into-step_count-requires : goal.steps_into-step_count-requires
-steps_into-step_count-requires c =
-    (c.requires.0, (front (goal.at.steps_into-step_count-requires c).After-keys_into).1, omega (arith, c.requires.1, c.requires.2))
-
-pub place_blocks-block_count-requires : goal.place_blocks-block_count-requires
-place_blocks-block_count-requires c =
-    (c.requires.0, (front (goal.at.place_blocks-block_count-requires c).After-keys_into).1, omega (arith, c.requires.1, c.requires.3), omega (arith, c.requires.1, c.requires.4))
+pub new-keyed-requires : goal.new-keyed-requires
+new-keyed-requires c = few-points c.args.s.now.nest c.args.s.now.accepted
 
 pub processor_count-processor_count-requires : goal.processor_count-processor_count-requires
-processor_count-processor_count-requires c =
-    let b = c.place_blocks-block_count in
-    let a = c.args in
-    let old = drop (length (points_of a.s)) a.processors.now in
-    (placed_room a.s old a.iterations c.requires.1 b.new.processors b.ensures.processors_after, placed_below a.s old a.iterations c.requires.1 b.new.processors b.ensures.processors_after c.requires.0)
+processor_count-processor_count-requires c = λ k h.
+    let b = (goal.at.processor_count-processor_count-requires c).After-place_blocks-block_count in
+    let s = c.args.s.now in
+    let ps = c.place_blocks-block_count.new.processors in
+    let old = drop s.iterations c.args.processors.now in
+    let l = length-take-le s.iterations ps (placed_room s.nest old s.iterations s.counted ps (placed b)) in
+    let i : k < s.iterations = omega (arith, h, l) in
+    subst (λ x. x < 2 ^ max_cube) (sym (get_or-take s.iterations ps k 0 i)) (placed_below s.nest old s.iterations s.counted ps (placed b) s.accepted k i)
 
-pub message_count-message_count-requires : goal.message_count-message_count-requires
-message_count-message_count-requires c =
-    let b = c.place_blocks-block_count in
-    let a = c.args in
-    (c.requires.0, (front (goal.at.message_count-message_count-requires c).After-keys_into).1, omega (arith, c.requires.1, placed_room a.s (drop (length (points_of a.s)) a.processors.now) a.iterations c.requires.1 b.new.processors b.ensures.processors_after))
+pub returns-clause-value : goal.returns-clause-value
+returns-clause-value c =
+    let s = c.args.s.now in
+    let b = (goal.at.returns-clause-value c).After-place_blocks-block_count in
+    let ps = c.place_blocks-block_count.new.processors in
+    let old = drop s.iterations c.args.processors.now in
+    let e = c.new-keyed.ensures in
+    answer-is s.nest s.iterations c.steps_into-step_count.result c.place_blocks-block_count.result c.processor_count-processor_count.result c.message_count-message_count.result s.counted
+    (c.steps_into-step_count.ensures.value ∙ ap (λ (t : AcceptedNest). step_count t.nest) e)
+    (c.place_blocks-block_count.ensures.value ∙ ap (λ (t : AcceptedNest). block_count t.nest) e)
+    (c.processor_count-processor_count.ensures ∙ placed_processors s.nest old s.iterations s.counted ps (placed b))
+    (c.message_count-message_count.ensures
+    ∙ ap (λ (t : AcceptedNest). total (tab (λ k. count (is_message t.nest (take (length (points_of t.nest)) ps) k) (tab (λ (i : ℕ). i) (count_of t.nest))) (length (points_of t.nest)))) e
+    ∙ placed_messages s.nest old (length (points_of s.nest)) refl ps (placed b))
 
-pub fill_by_keys-requires : goal.fill_by_keys-requires
-fill_by_keys-requires c =
-    (c.requires.0, (front (goal.at.fill_by_keys-requires c).After-keys_into).1, omega (arith, c.requires.1, c.requires.5))
-
-pub returns : goal.returns
-returns c =
-    let f = c.fill_by_keys in
-    let m = c.message_count-message_count in
-    let p = c.processor_count-processor_count in
-    let b = c.place_blocks-block_count in
-    let t = c.steps_into-step_count in
-    let a = c.args in
-    let s = a.s in
-    let old = drop (length (points_of a.s)) a.processors.now in
-    let ps = b.new.processors in record {
-      value = answer-is s a.iterations t.result b.result p.result m.result c.requires.1 t.ensures.value b.ensures.value (p.ensures ∙ placed_processors s old a.iterations c.requires.1 ps b.ensures.processors_after) (m.ensures ∙ placed_messages s old (length (points_of s)) refl ps b.ensures.processors_after);
-      steps_after = t.ensures.steps_after ∙ ap (λ n. steps_of s ++ drop n a.steps.now) (sym c.requires.1);
-      blocks_after = b.ensures.blocks_after ∙ ap (λ n. blocks_of s ++ drop n a.blocks.now) (sym c.requires.1);
-      processors_after = b.ensures.processors_after ∙ ap (λ n. processors_of s ++ drop n a.processors.now) (sym c.requires.1);
-      values_after = f.ensures ∙ loop-values s a.values.now a.iterations c.requires.1;
-    }
+pub returns-clause-values_after : goal.returns-clause-values_after
+returns-clause-values_after c =
+    let s = c.args.s.now in
+    c.fill_by_keys.ensures
+    ∙ ap (λ (t : AcceptedNest). loop (rule_of t.nest) t.nest (length (points_of t.nest)) ++ drop (length (points_of t.nest)) c.args.values.now) c.new-keyed.ensures
+    ∙ loop-values s.nest c.args.values.now s.iterations s.counted

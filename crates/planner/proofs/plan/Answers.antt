@@ -1,53 +1,67 @@
 -- `plan` meets its contract: one law of `PlanLaws` for each way out. Assumes nothing.
 use mathlib.Core.Path.{◌≡◌, sym, ap, ◌∙◌}
-use lib.ListN.{length}
-use Rattle.nest.specs.declared.Inspection.{Inspection}
+use mathlib.Core.List.{◌++◌}
+use lib.ListN.{length, drop}
+use Rattle.partition.specs.Partition.{steps_of, blocks_of}
+use Rattle.mapping.specs.Mapping.{processors_of}
+use Rattle.sequential.specs.Sequential.{values_of}
 use Rattle.nest.specs.Points.{points_of}
+use Rattle.nest.specs.Outcomes.{code, number_in}
 use Rattle.nest.specs.Refusals.{refusal, no_room}
-use Rattle.nest.proofs.Entries.{iterations_are, all_enough}
-use Rattle.planner.proofs.PlanLaws.{refused-nest, short_table, made-plan}
+use Rattle.nest.proofs.Entries.{all_enough, four-rooms}
+use Rattle.nest.proofs.Outcomes.{refused-above}
+use Rattle.planner.specs.Plan.{plan_answer}
+use Rattle.planner.specs.Answered.{made_of, planning_of}
+use Rattle.planner.proofs.PlanLaws.{refused-nest, short_table, made-plan, planning-out}
 use Rattle.planner.proofs.plan.Goals as goal
-use Rattle.planner.proofs.plan.Goals.{After-inspect-known, Else-refusal-ne0, Else-room-ne0, Start}
+use Rattle.planner.proofs.plan.Goals.{After-branch-check_room, After-check_room}
 
--- what `inspect` answers: the refusal, and behind the test the number of iterations
-number : (c : After-inspect-known) → c.inspect-known.result.refusal ≡ refusal c.args.s
-number c = ap (λ (r : Inspection). r.refusal) c.inspect-known.ensures
+-- the nest is accepted, and so many iterations it has
+accepted : (c : After-branch-check_room) → refusal c.args.s ≡ 0
+accepted c = sym c.in_ok-accepted.ensures.number
 
-accepted : (c : Else-refusal-ne0) → refusal c.args.s ≡ 0
-accepted c = sym (number (goal.at.Else-refusal-ne0 c).After-inspect-known) ∙ c.if-refusal-ne0.false
+count : (c : After-branch-check_room) → c.in_ok-accepted.accepted.iterations ≡ length (points_of c.args.s)
+count c = c.in_ok-accepted.accepted.counted ∙ ap (λ s. length (points_of s)) c.in_ok-accepted.ensures.same_nest
 
-count : (c : Else-refusal-ne0) → c.inspect-known.result.iterations ≡ length (points_of c.args.s)
-count c = ap (λ (r : Inspection). r.iterations) c.inspect-known.ensures ∙ iterations_are c.args.s (accepted c)
+-- the room of the tables
+room : (c : After-check_room)
+    → number_in c.check_room.result ≡ (let a = c.args in no_room c.in_ok-accepted.accepted.iterations (length a.steps.now) (length a.blocks.now) (length a.processors.now) (length a.values.now))
+room c = let a = c.args in c.check_room.ensures ∙ four-rooms c.in_ok-accepted.accepted.iterations (length a.steps.now) (length a.blocks.now) (length a.processors.now) (length a.values.now)
 
--- the tables are long enough
-room : (c : Else-room-ne0)
-    → (let i = c in let a = i.args in no_room i.inspect-known.result.iterations (length a.steps.now) (length a.blocks.now) (length a.processors.now) (length a.values.now)) ≡ 0
-room c = sym c.check_room-room.ensures ∙ c.if-room-ne0.false
-
-pub returns-then-refusal-ne0 : goal.returns-then-refusal-ne0
-returns-then-refusal-ne0 c =
+pub returns-in_err-accepted : goal.returns-in_err-accepted
+returns-in_err-accepted c =
     let a = c.args in
-    refused-nest a.s a.steps.now a.blocks.now a.processors.now a.values.now c.refused.result c.inspect-known.result.refusal c.refused.ensures (number (goal.at.returns-then-refusal-ne0 c).After-inspect-known) c.if-refusal-ne0.true
+    let e = c.in_err-accepted.field-0.0 in
+    let w = c.in_err-accepted.was in
+    refused-nest a.s a.steps.now a.blocks.now a.processors.now a.values.now (planning_of c.from_residual.result) (code e)
+    (planning-out c.from_residual.result e c.from_residual.ensures.1) c.in_err-accepted.ensures.number (λ z. refused-above c.accept.result e w (ap number_in w ∙ z))
 
-pub returns-then-room-ne0 : goal.returns-then-room-ne0
-returns-then-room-ne0 c =
-    let at_else = (goal.at.returns-then-room-ne0 c).Else-refusal-ne0 in
+pub returns-in_err-check_room : goal.returns-in_err-check_room
+returns-in_err-check_room c =
     let a = c.args in
-    short_table a.s a.steps.now a.blocks.now a.processors.now a.values.now (accepted at_else) c.inspect-known.result.iterations (count at_else) c.refused-then-room-ne0.result c.check_room-room.result
-    c.refused-then-room-ne0.ensures c.check_room-room.ensures c.if-room-ne0.true
+    let p = (goal.at.returns-in_err-check_room c).After-branch-check_room in
+    let q = (goal.at.returns-in_err-check_room c).After-check_room in
+    let e = c.in_err-check_room.field-0.0 in
+    let w = c.in_err-check_room.was in
+    short_table a.s a.steps.now a.blocks.now a.processors.now a.values.now (accepted p) c.in_ok-accepted.accepted.iterations (count p) (planning_of c.from_residual-in_err-check_room.result) (code e)
+    (planning-out c.from_residual-in_err-check_room.result e c.from_residual-in_err-check_room.ensures.1) (sym (ap number_in w) ∙ room q) (λ z. refused-above c.check_room.result e w (ap number_in w ∙ z))
 
 pub make-requires : goal.make-requires
 make-requires c =
-    let at_else = (goal.at.make-requires c).Else-refusal-ne0 in
     let a = c.args in
-    let h = all_enough c.inspect-known.result.iterations (length a.steps.now) (length a.blocks.now) (length a.processors.now) (length a.values.now) (room (goal.at.make-requires c).Else-room-ne0) in
-    (accepted at_else, count at_else, h.0, h.1, h.2, h.3)
+    let r = room (goal.at.make-requires c).After-check_room in
+    all_enough c.in_ok-accepted.accepted.iterations (length a.steps.now) (length a.blocks.now) (length a.processors.now) (length a.values.now) (sym r ∙ ap number_in c.in_ok-check_room.was)
 
 pub returns : goal.returns
 returns c =
-    let at_else = (goal.at.returns c).Else-refusal-ne0 in
-    let f = c.make in
     let a = c.args in
-    made-plan a.s a.steps.now a.blocks.now a.processors.now a.values.now (accepted at_else) c.inspect-known.result.iterations (count at_else) f.result
+    let t = c.in_ok-accepted.accepted in
+    let e = c.in_ok-accepted.ensures.same_nest in
+    let p = (goal.at.returns c).After-branch-check_room in
+    let f = c.make in
+    made-plan a.s a.steps.now a.blocks.now a.processors.now a.values.now (accepted p) t.iterations (count p) (made_of f.result)
     f.new.steps f.new.blocks f.new.processors f.new.values
-    (room (goal.at.returns c).Else-room-ne0) f.ensures.value f.ensures.steps_after f.ensures.blocks_after f.ensures.processors_after f.ensures.values_after
+    (sym (room (goal.at.returns c).After-check_room) ∙ ap number_in c.in_ok-check_room.was)
+    (f.ensures.value ∙ ap (λ s. plan_answer s 0) e)
+    (f.ensures.steps_after ∙ ap (λ s. steps_of s ++ drop t.iterations a.steps.now) e) (f.ensures.blocks_after ∙ ap (λ s. blocks_of s ++ drop t.iterations a.blocks.now) e)
+    (f.ensures.processors_after ∙ ap (λ s. processors_of s ++ drop t.iterations a.processors.now) e) (f.ensures.values_after ∙ ap (λ s. values_of s ++ drop t.iterations a.values.now) e)

@@ -1,40 +1,58 @@
 -- `row` meets its contract: the part that `locate` names lies within the table. Assumes nothing.
-use mathlib.Core.Path.{◌≡◌, ap, ◌∙◌}
+use mathlib.Core.Path.{◌≡◌, sym, ap, ◌∙◌}
 use Prim.Native.Nat.{◌+◌, ◌-◌, ◌≤◌}
 use native.Mathlib.Omega.{arith}
 use lib.ListN.{length, take, drop}
-use mir.Facts.{to_z-of_z}
-use Rattle.rows.specs.declared.Span.{Span}
-use Rattle.rows.specs.Rows.{span_of, row_of}
-use Rattle.rows.proofs.SpanLaws.{span_fits, span_refusal}
+use Rattle.std.proofs.Common.{rules}
+use Rattle.integers.proofs.Machine.{reads}
+use Rattle.nest.proofs.Outcomes.{number_out}
+use Rattle.rows.specs.Rows.{Span, span_of, row_of}
+use Rattle.rows.specs.Answered.{span_in}
+use Rattle.rows.proofs.SpanLaws.{span_fits, span_refusal, part_out}
 use Rattle.rows.proofs.row.Goals as goal
-use Rattle.rows.proofs.row.Goals.{After-locate-at}
+use Rattle.rows.proofs.row.Goals.{After-locate, After-struct_known-1}
 
 -- the span, and that it ends within the table
-span : (c : After-locate-at) → c.locate-at.result ≡ span_of c.args.s (length c.args.table.now) c.args.index
-span c = c.locate-at.ensures ∙ ap (span_of c.args.s (length c.args.table.now)) (to_z-of_z c.ranges.index)
+span : (c : After-locate) → span_in c.locate.result ≡ span_of c.args.s (length c.args.table.now) c.args.index
+span c = let i : reads c.args.index ≡ c.args.index = search rules in c.locate.ensures ∙ ap (span_of c.args.s (length c.args.table.now)) i
 
-fits : (c : After-locate-at) → c.locate-at.result.start + c.locate-at.result.length ≤ length c.args.table.now
+found : (c : After-struct_known-1)
+    → ◌≡◌ {A = Span} (record { refusal = 0; start = c.in_ok-at.at.start; length = c.in_ok-at.at.length }) (span_of c.args.s (length c.args.table.now) c.args.index)
+found c = sym (ap span_in c.in_ok-at.was) ∙ span (goal.at.After-struct_known-1 c).After-locate
+
+fits : (c : After-struct_known-1) → c.in_ok-at.at.start + c.in_ok-at.at.length ≤ length c.args.table.now
 fits c =
     let a = c.args in
-    let e = ap (λ (r : Span). r.start + r.length) (span c) in
-    omega (arith, span_fits a.s (length a.table.now) a.index)
+    omega (arith, span_fits a.s (length a.table.now) a.index, ap (λ (r : Span). r.start + r.length) (found c))
 
-pub overflow_add-end : goal.overflow_add-end
-overflow_add-end c = let f = fits (goal.at.overflow_add-end c).After-locate-at in omega arith
+pub returns-in_err-at : goal.returns-in_err-at
+unfolding row_of
+returns-in_err-at c =
+    let a = c.args in
+    let r = c.from_residual.result in
+    let h = c.from_residual.ensures.1 in
+    let e = c.in_err-at.field-0.0 in
+    let f = sym (ap span_in c.in_err-at.was) ∙ span (goal.at.returns-in_err-at c).After-locate in (
+      part_out r e h ∙ ap (λ (p : Span). take p.length (drop p.start a.table.now)) f,
+      number_out r e h ∙ ap (λ (p : Span). p.refusal) f ∙ span_refusal a.s (length a.table.now) a.index,
+    )
 
-pub offset_bounds-table-start : goal.offset_bounds-table-start
-offset_bounds-table-start c = let f = fits (goal.at.offset_bounds-table-start c).After-locate-at in omega arith
+pub overflow_add-result : goal.overflow_add-result
+overflow_add-result c = let f = fits (goal.at.overflow_add-result c).After-struct_known-1 in search rules
+
+pub offset_bounds-table-at : goal.offset_bounds-table-at
+offset_bounds-table-at c = let f = fits (goal.at.offset_bounds-table-at c).After-struct_known-1 in omega arith
 
 pub slice_bounds-result-end : goal.slice_bounds-result-end
-slice_bounds-result-end c = let f = fits (goal.at.slice_bounds-result-end c).After-locate-at in omega arith
+slice_bounds-result-end c = let f = fits (goal.at.slice_bounds-result-end c).After-struct_known-1 in omega arith
 
 pub returns : goal.returns
 unfolding row_of
 returns c =
-    let r = c.locate-at.result in
     let a = c.args in
-    let e : r.start + r.length - r.start ≡ r.length = omega arith in (
-      rw e (ap (λ (p : Span). take p.length (drop p.start a.table.now)) (span (goal.at.returns c).After-locate-at)),
-      ap (λ (p : Span). p.refusal) (span (goal.at.returns c).After-locate-at) ∙ span_refusal a.s (length a.table.now) a.index,
+    let r = c.in_ok-at.at in
+    let e : r.start + r.length - r.start ≡ r.length = omega arith in
+    let f = found (goal.at.returns c).After-struct_known-1 in (
+      rw e (ap (λ (p : Span). take p.length (drop p.start a.table.now)) f),
+      ap (λ (p : Span). p.refusal) f ∙ span_refusal a.s (length a.table.now) a.index,
     )

@@ -1,46 +1,48 @@
 -- `fill` meets its contract: one law of `FillLaws` for each way out. Assumes nothing.
-use mathlib.Core.Path.{◌≡◌, sym, ap, ◌∙◌}
-use Prim.Native.Nat.{◌≤◌}
-use native.Mathlib.Omega.{arith}
-use lib.ListN.{length}
-use Rattle.nest.specs.declared.Inspection.{Inspection}
+use Rattle.std.proofs.Common.{◌≡◌, sym, ap, subst, ◌∙◌, arith, length}
 use Rattle.nest.specs.Points.{points_of}
+use Rattle.nest.specs.Outcomes.{code, number_in}
 use Rattle.nest.specs.Refusals.{refusal}
-use Rattle.nest.proofs.Entries.{iterations_are}
+use Rattle.nest.proofs.Entries.{one-room, short_number, enough}
+use Rattle.nest.proofs.Outcomes.{code-above, number_out}
+use Rattle.sequential.specs.Sequential.{Fills}
 use Rattle.sequential.proofs.FillLaws.{refused-nest, short_table, filled-table}
 use Rattle.sequential.proofs.fill.Goals as goal
-use Rattle.sequential.proofs.fill.Goals.{After-inspect-known, Else-refusal-ne0, Else-values-iterations}
+use Rattle.sequential.proofs.fill.Goals.{After-branch-check_room}
 
--- what `inspect` answers: the refusal, and behind the test the number of iterations
-number : (c : After-inspect-known) → c.inspect-known.result.refusal ≡ refusal c.args.s
-number c = ap (λ (r : Inspection). r.refusal) c.inspect-known.ensures
+-- the nest is accepted, and how many iterations it has
+accepted : (c : After-branch-check_room) → refusal c.args.s ≡ 0
+accepted c = sym c.in_ok-accepted.ensures.number
 
-accepted : (c : Else-refusal-ne0) → refusal c.args.s ≡ 0
-accepted c = sym (number (goal.at.Else-refusal-ne0 c).After-inspect-known) ∙ c.if-refusal-ne0.false
+count : (c : After-branch-check_room) → c.in_ok-accepted.accepted.iterations ≡ length (points_of c.args.s)
+count c = c.in_ok-accepted.accepted.counted ∙ ap (λ s. length (points_of s)) c.in_ok-accepted.ensures.same_nest
 
-count : (c : Else-refusal-ne0) → c.inspect-known.result.iterations ≡ length (points_of c.args.s)
-count c = ap (λ (r : Inspection). r.iterations) c.inspect-known.ensures ∙ iterations_are c.args.s (accepted c)
+pub returns-in_err-accepted : goal.returns-in_err-accepted
+returns-in_err-accepted c =
+    let e = c.in_err-accepted.field-0.0 in
+    let n = number_out c.from_residual.result e c.from_residual.ensures.1 in
+    refused-nest c.args.s c.args.values.now (number_in c.from_residual.result) (n ∙ c.in_err-accepted.ensures.number) (λ z. omega (arith, n, z, code-above e))
+
+pub returns-in_err-check_room : goal.returns-in_err-check_room
+returns-in_err-check_room c =
+    let a = c.args in
+    let p = (goal.at.returns-in_err-check_room c).After-branch-check_room in
+    let e = c.in_err-check_room.field-0.0 in
+    let n = c.in_ok-accepted.accepted.iterations in
+    let q = short_number n (length a.values.now) (code e) (code-above e) (c.in_err-check_room.ensures ∙ one-room n (length a.values.now)) in
+    let t = short_table a.s a.values.now (accepted p) (omega (arith, q.0, count p)) in
+    (number_out c.from_residual-in_err-check_room.result e c.from_residual-in_err-check_room.ensures.1 ∙ q.1 ∙ t.0, t.1)
 
 -- the table is long enough
-room : (c : Else-values-iterations) → c.inspect-known.result.iterations ≤ length c.args.values.now
-room c = omega (arith, c.if-values-iterations.false)
-
-pub returns-then-refusal-ne0 : goal.returns-then-refusal-ne0
-returns-then-refusal-ne0 c =
-    let a = c.args in
-    refused-nest a.s a.values.now c.inspect-known.result.refusal (number (goal.at.returns-then-refusal-ne0 c).After-inspect-known) c.if-refusal-ne0.true
-
-pub returns-then-values-iterations : goal.returns-then-values-iterations
-returns-then-values-iterations c =
-    let a = c.args in
-    short_table a.s a.values.now (accepted (goal.at.returns-then-values-iterations c).Else-refusal-ne0) (omega (arith, count (goal.at.returns-then-values-iterations c).Else-refusal-ne0, c.if-values-iterations.true))
-
 pub fill_values-requires : goal.fill_values-requires
-fill_values-requires c = (accepted (goal.at.fill_values-requires c).Else-refusal-ne0, count (goal.at.fill_values-requires c).Else-refusal-ne0, room (goal.at.fill_values-requires c).Else-values-iterations)
+fill_values-requires c =
+    let n = c.in_ok-accepted.accepted.iterations in
+    enough n (length c.args.values.now) (sym (c.in_ok-check_room.ensures ∙ one-room n (length c.args.values.now)))
 
 pub returns : goal.returns
 returns c =
-    let f = c.fill_values in
-    let d = c in
-    let a = d.args in
-    filled-table a.s a.values.now f.new.values d.inspect-known.result.iterations (accepted (goal.at.returns d).Else-refusal-ne0) (count (goal.at.returns d).Else-refusal-ne0) (room (goal.at.returns d).Else-values-iterations) f.ensures
+    let a = c.in_ok-accepted.accepted in
+    let old = c.args.values.now in
+    let room = enough a.iterations (length old) (sym (c.in_ok-check_room.ensures ∙ one-room a.iterations (length old))) in
+    subst (λ s. Fills s old 0 c.fill_values.new.values) c.in_ok-accepted.ensures.same_nest
+    (filled-table a.nest old c.fill_values.new.values a.iterations a.accepted a.counted room c.fill_values.ensures)

@@ -1,149 +1,100 @@
 -- `fill_by_keys` meets its contract. Assumes nothing.
-use mathlib.Core.Path.{◌≡◌, ap, ◌∙◌}
-use mathlib.Core.List.{List}
-use Prim.Native.Nat.{ℕ, ◌<◌, ◌≤◌}
-use native.Mathlib.Omega.{arith}
-use lib.IntN.{ℤ}
-use lib.ListN.{length}
-use Rattle.integers.proofs.Bounds.{told}
-use Rattle.nest.specs.declared.LoopNest.{LoopNest}
-use Rattle.nest.specs.Nest.{to_ℕ, count_of, max_dependences}
+use Rattle.std.proofs.Common.{◌≡◌, refl, sym, ap, ◌∙◌, arith, ℤ, ◌+◌, ◌<◌, ◌≤◌, take, length, List}
+use Rattle.std.proofs.lemmas.List.{length-take-le}
+use Rattle.nest.specs.Nest.{max_dependences}
 use Rattle.nest.specs.Points.{points_of}
 use Rattle.nest.proofs.Accepted.{count_is}
 use Rattle.nest.proofs.PointLaws.{few-points}
-use Rattle.sources.proofs.Cursors.{behind-start, behind_more, keyed-length, keyed_increase}
+use Rattle.sources.proofs.Cursors.{distances-front, keyed-length, keyed_search}
+use Rattle.sequential.specs.declared.Edge.{Edge}
+use Rattle.sequential.specs.Edges.{weights_in, boundaries_in}
+use Rattle.sequential.proofs.EdgeLaws.{mapped-take}
 use Rattle.sequential.proofs.FillLaws.{filled_to, filled_none, filled-length, filled_more}
-use Rattle.sequential.proofs.KeyLaws.{Uses, uses_search, uses_value}
+use Rattle.sequential.proofs.KeyLaws.{Uses, uses_value}
 use Rattle.sequential.proofs.fill_by_keys.Goals as goal
-use Rattle.sequential.proofs.fill_by_keys.Goals.{After-sizes_of-boundaries, After-to_size-m, At-loop-k, Start}
+use Rattle.sequential.proofs.fill_by_keys.Goals.{After-count-m, After-new-sources, At-loop-k}
 
--- where the number of dependences is known
-abbrev Counted : Type 0
-Counted = After-to_size-m
+few : (t : After-count-m) → t.count-m.result ≤ max_dependences
+few t = omega (arith, t.count-m.ensures, (count_is t.args.s.now.nest.now.nest t.args.s.now.nest.now.accepted).1)
 
--- it is the nest's, and there is a place for each in the arrays
-count : (t : Counted) → t.to_size-m.result ≡ count_of t.args.s
-count t = t.to_size-m.ensures ∙ ap to_ℕ (told t.args.s.count t.struct_told-1.given.1.0.1)
-
-few : (t : Counted) → t.to_size-m.result ≤ max_dependences
-few t = omega (arith, count t, (count_is t.args.s t.requires.0).1)
-
--- where the loop begins: the nest, and the numbers that are used
-abbrev Begin : Type 0
-Begin = After-sizes_of-boundaries
-
-abbrev s : Begin → LoopNest
-s b = b.args.s
-
-abbrev m : Begin → ℕ
-m b = b.to_size-m.result
-
-abbrev distances : Begin → List ℤ
-distances b = b.distances_of-distances.result
-
-abbrev weights : Begin → List ℕ
-weights b = b.sizes_of-weights.result
-
-abbrev boundaries : Begin → List ℕ
-boundaries b = b.sizes_of-boundaries.result
-
-uses : (b : Begin) → Uses (s b) b.args.keys.now (m b) (distances b) (weights b) (boundaries b)
-uses b = record {
+-- the numbers that are used, and the nest that they are of
+uses : (t : After-count-m) → Uses t.args.s.now.nest.now.nest t.args.s.now.keys.now t.count-m.result (take t.count-m.result t.distances_of-distances.result) (weights_in (take t.count-m.result t.edges_of-edges.result)) (boundaries_in (take t.count-m.result t.edges_of-edges.result))
+uses t = record {
   keyed = record {
-    accepted = b.requires.0;
-    keys_are = b.requires.1;
-    count = count (goal.at.After-sizes_of-boundaries b).After-to_size-m;
-    distances_are = b.distances_of-distances.ensures;
+    accepted = t.args.s.now.nest.now.accepted;
+    keys_are = t.args.s.now.keyed;
+    count = t.count-m.ensures;
+    distances_are = ap (take t.count-m.result) t.distances_of-distances.ensures ∙ distances-front t.args.s.now.nest.now.nest t.args.s.now.nest.now.accepted t.count-m.result t.count-m.ensures;
   };
-  weights_are = b.sizes_of-weights.ensures;
-  boundaries_are = b.sizes_of-boundaries.ensures;
+  weights_are = λ i h. mapped-take (λ (e : Edge). e.weight) t.edges_of-edges.result t.count-m.result i h ∙ t.edges_of-edges.ensures.weights i (omega (arith, h, t.count-m.ensures));
+  boundaries_are = λ i h. mapped-take (λ (e : Edge). e.boundary) t.edges_of-edges.result t.count-m.result i h ∙ t.edges_of-edges.ensures.boundaries i (omega (arith, h, t.count-m.ensures));
 }
 
 -- there are as many keys as iterations
-keys-count : (b : Begin) → length b.args.keys.now ≡ length (points_of (s b))
-keys-count b = keyed-length (s b) b.args.keys.now (m b) (distances b) (uses b).keyed
+keys-count : (t : After-count-m) → length t.args.s.now.keys.now ≡ length (points_of t.args.s.now.nest.now.nest)
+keys-count t = keyed-length t.args.s.now.nest.now.nest t.args.s.now.keys.now t.count-m.result (take t.count-m.result t.distances_of-distances.result) (uses t).keyed
+
+distances-length : (t : After-count-m) → length (take t.count-m.result t.distances_of-distances.result) ≡ t.count-m.result
+distances-length t = length-take-le t.count-m.result t.distances_of-distances.result (omega (arith, few t))
+
+edges-length : (t : After-count-m) → length (take t.count-m.result t.edges_of-edges.result) ≡ t.count-m.result
+edges-length t = length-take-le t.count-m.result t.edges_of-edges.result (omega (arith, few t))
 
 -- the table keeps its length
 kept : (d : At-loop-k) → length d.loop-k.values ≡ length d.args.values.now
 kept d =
-    let b = d in
-    ap length (d.loop-k.invariant.1 (s (goal.at.At-loop-k b).After-sizes_of-boundaries) (uses (goal.at.At-loop-k b).After-sizes_of-boundaries)) ∙ filled-length (s (goal.at.At-loop-k b).After-sizes_of-boundaries) b.args.values.now d.loop-k.k (omega (arith, d.loop-k.invariant.0, keys-count (goal.at.At-loop-k b).After-sizes_of-boundaries, b.requires.2))
+    ap length d.loop-k.invariant.table ∙ filled-length d.args.s.now.nest.now.nest d.args.values.now d.loop-k.k (omega (arith, keys-count (goal.at.At-loop-k d).After-count-m, d.requires, d.loop-k.auto))
 
-pub distances_of-distances-requires : goal.distances_of-distances-requires
-distances_of-distances-requires c = c.requires.0
+pub slice_bounds-distances-end : goal.slice_bounds-distances-end
+slice_bounds-distances-end c = omega (arith, few (goal.at.slice_bounds-distances-end c).After-count-m)
 
-pub sizes_of-weights-requires : goal.sizes_of-weights-requires
-sizes_of-weights-requires c = few (goal.at.sizes_of-weights-requires c).After-to_size-m
+pub slice_bounds-new-end : goal.slice_bounds-new-end
+slice_bounds-new-end c = sym (distances-length (goal.at.slice_bounds-new-end c).After-count-m)
 
-pub sizes_of-boundaries-requires : goal.sizes_of-boundaries-requires
-sizes_of-boundaries-requires c = few (goal.at.sizes_of-boundaries-requires c).After-to_size-m
+pub new-sources-requires-clause-few : goal.new-sources-requires-clause-few
+new-sources-requires-clause-few c = let t = (goal.at.new-sources-requires-clause-few c).After-count-m in omega (arith, few t, distances-length t)
+
+pub new-sources-requires-clause-searchable : goal.new-sources-requires-clause-searchable
+new-sources-requires-clause-searchable c =
+    let t = (goal.at.new-sources-requires-clause-searchable c).After-count-m in
+    λ i h. keyed_search c.args.s.now.nest.now.nest c.args.s.now.keys.now c.count-m.result (take c.count-m.result c.distances_of-distances.result) (uses t).keyed i (omega (arith, h, distances-length t))
 
 pub loop-k-init : goal.loop-k-init
-loop-k-init c =
-    let a = c.args in
-    (omega arith, λ s' u. filled_none s' a.values.now, λ h. behind-start a.keys.now (distances c) (m c) max_dependences)
+loop-k-init c = record { table = filled_none c.args.s.now.nest.now.nest c.args.values.now; same_keys = refl; same_distances = refl; at_k = c.new-sources.ensures.iteration }
 
-pub next_value-requires : goal.next_value-requires
-next_value-requires c =
-    let i = c in
-    let d = i in
-    let b = d in
-    let k = i.loop-k-test.true in
-    let u = uses (goal.at.next_value-requires b).After-sizes_of-boundaries in
-    let ok = b.requires.0 in record {
-      k_in_bounds = (
-        k,
-        omega (arith, keys-count (goal.at.next_value-requires b).After-sizes_of-boundaries, few-points (s (goal.at.next_value-requires b).After-sizes_of-boundaries) ok),
-        omega (arith, kept (goal.at.next_value-requires d).At-loop-k, keys-count (goal.at.next_value-requires b).After-sizes_of-boundaries, b.requires.2),
-        few (goal.at.next_value-requires b).After-to_size-m,
-      );
-      by_index = uses_search (s (goal.at.next_value-requires b).After-sizes_of-boundaries) b.args.keys.now (m (goal.at.next_value-requires b).After-sizes_of-boundaries) (distances (goal.at.next_value-requires b).After-sizes_of-boundaries) (weights (goal.at.next_value-requires b).After-sizes_of-boundaries) (boundaries (goal.at.next_value-requires b).After-sizes_of-boundaries) u;
-      behind = d.loop-k.invariant.2 k;
-    }
+pub slice_bounds-edges-end : goal.slice_bounds-edges-end
+slice_bounds-edges-end c = omega (arith, few (goal.at.slice_bounds-edges-end c).After-count-m)
 
-pub offset_bounds-values-k : goal.offset_bounds-values-k
-offset_bounds-values-k c =
-    let i = c in
-    let b = i in
-    omega (arith, keys-count (goal.at.offset_bounds-values-k b).After-sizes_of-boundaries, few-points (s (goal.at.offset_bounds-values-k b).After-sizes_of-boundaries) b.requires.0, i.loop-k-test.true)
+pub slice_bounds-next_value-end : goal.slice_bounds-next_value-end
+slice_bounds-next_value-end c = sym (edges-length (goal.at.slice_bounds-next_value-end c).After-count-m)
+
+pub next_value-requires-clause-few : goal.next_value-requires-clause-few
+next_value-requires-clause-few c =
+    omega (arith, ap (λ (ks : List ℤ). length ks) (c.loop-k.invariant.same_keys ∙ c.new-sources.ensures.keys), keys-count (goal.at.next_value-requires-clause-few c).After-count-m, few-points c.args.s.now.nest.now.nest c.args.s.now.nest.now.accepted)
+
+pub next_value-requires-clause-room : goal.next_value-requires-clause-room
+next_value-requires-clause-room c =
+    omega (arith, ap (λ (ks : List ℤ). length ks) (c.loop-k.invariant.same_keys ∙ c.new-sources.ensures.keys), keys-count (goal.at.next_value-requires-clause-room c).After-count-m, kept (goal.at.next_value-requires-clause-room c).At-loop-k, c.requires)
 
 pub bounds-values-k : goal.bounds-values-k
-bounds-values-k c =
-    let i = c in
-    let b = i in
-    omega (arith, kept (goal.at.bounds-values-k i).At-loop-k, keys-count (goal.at.bounds-values-k b).After-sizes_of-boundaries, b.requires.2, i.loop-k-test.true)
-
-pub overflow_step-k : goal.overflow_step-k
-overflow_step-k c =
-    let i = c in
-    let b = i in
-    omega (arith, keys-count (goal.at.overflow_step-k b).After-sizes_of-boundaries, few-points (s (goal.at.overflow_step-k b).After-sizes_of-boundaries) b.requires.0, i.loop-k-test.true)
-
-pub loop-k-smaller : goal.loop-k-smaller
-loop-k-smaller c = let i = c in omega (arith, i.loop-k-test.true)
+bounds-values-k c = omega (arith, keys-count (goal.at.bounds-values-k c).After-count-m, kept (goal.at.bounds-values-k c).At-loop-k, c.requires, c.loop-k-test.true)
 
 pub loop-k-preserved : goal.loop-k-preserved
 loop-k-preserved c =
-    let i = c in
-    let d = i in
-    let b = d in
-    let a = b.args in
-    let k = i.loop-k-test.true in (
-      omega (arith, k),
-      λ s' u.
-          let n = keyed-length s' a.keys.now (m (goal.at.loop-k-preserved b).After-sizes_of-boundaries) (distances (goal.at.loop-k-preserved b).After-sizes_of-boundaries) u.keyed in
-          let l : d.loop-k.k < length (points_of s') = omega (arith, k, n) in
-          filled_more s' a.values.now u.keyed.accepted d.loop-k.k c.next_value.result d.loop-k.values l (omega (arith, k, keys-count (goal.at.loop-k-preserved b).After-sizes_of-boundaries, b.requires.2)) (d.loop-k.invariant.1 s' u)
-          (uses_value s' a.keys.now (m (goal.at.loop-k-preserved b).After-sizes_of-boundaries) (distances (goal.at.loop-k-preserved b).After-sizes_of-boundaries) (weights (goal.at.loop-k-preserved b).After-sizes_of-boundaries) (boundaries (goal.at.loop-k-preserved b).After-sizes_of-boundaries) u d.loop-k.values d.loop-k.k l c.next_value.result c.next_value.ensures.value),
-      λ h. behind_more a.keys.now (distances (goal.at.loop-k-preserved b).After-sizes_of-boundaries) (m (goal.at.loop-k-preserved b).After-sizes_of-boundaries) d.loop-k.k c.next_value.new.cursors (keyed_increase (s (goal.at.loop-k-preserved b).After-sizes_of-boundaries) a.keys.now (m (goal.at.loop-k-preserved b).After-sizes_of-boundaries) (distances (goal.at.loop-k-preserved b).After-sizes_of-boundaries) (uses (goal.at.loop-k-preserved b).After-sizes_of-boundaries).keyed) h c.next_value.ensures.behind_2,
-    )
-
-pub shape_of-values : goal.shape_of-values
-shape_of-values c = kept (goal.at.shape_of-values c).At-loop-k
+    let t = (goal.at.loop-k-preserved c).After-count-m in
+    let l = c.loop-k in
+    let h : l.k < length (points_of c.args.s.now.nest.now.nest) = omega (arith, keys-count t, c.loop-k-test.true) in
+    let v = rw (l.invariant.same_keys ∙ c.new-sources.ensures.keys, l.invariant.same_distances ∙ c.new-sources.ensures.distances, l.invariant.at_k, edges-length t) at c.next_value.ensures.value in
+    record {
+      table = filled_more c.args.s.now.nest.now.nest c.args.values.now c.args.s.now.nest.now.accepted l.k c.next_value.result l.values h (omega (arith, h, c.requires)) l.invariant.table
+          (uses_value c.args.s.now.nest.now.nest c.args.s.now.keys.now c.count-m.result (take c.count-m.result c.distances_of-distances.result) (weights_in (take c.count-m.result c.edges_of-edges.result)) (boundaries_in (take c.count-m.result c.edges_of-edges.result)) (uses t) l.values l.k h c.next_value.result v);
+      same_keys = c.advance.ensures.keys ∙ c.next_value.ensures.keys ∙ l.invariant.same_keys;
+      same_distances = c.advance.ensures.distances ∙ c.next_value.ensures.distances ∙ l.invariant.same_distances;
+      at_k = c.advance.ensures.iteration ∙ ap (λ k. k + 1) (c.next_value.ensures.iteration ∙ l.invariant.at_k);
+    }
 
 pub returns : goal.returns
 returns c =
-    let d = c in
-    let b = d in
-    let e : d.loop-k.k ≡ length (points_of (s (goal.at.returns b).After-sizes_of-boundaries)) = omega (arith, keys-count (goal.at.returns b).After-sizes_of-boundaries, d.loop-k.invariant.0, c.loop-k-test.false) in
-    d.loop-k.invariant.1 (s (goal.at.returns b).After-sizes_of-boundaries) (uses (goal.at.returns b).After-sizes_of-boundaries) ∙ ap (filled_to (s (goal.at.returns b).After-sizes_of-boundaries) b.args.values.now) e
+    let t = (goal.at.returns c).After-count-m in
+    let e : c.loop-k.k ≡ length (points_of c.args.s.now.nest.now.nest) = omega (arith, keys-count t, c.loop-k-test.false) in
+    c.loop-k.invariant.table ∙ ap (filled_to c.args.s.now.nest.now.nest c.args.values.now) e

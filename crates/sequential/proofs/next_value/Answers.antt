@@ -1,83 +1,41 @@
 -- `next_value` meets its contract. Assumes nothing.
-use mathlib.Core.Path.{sym, subst}
-use Prim.Native.Nat.{◌<◌}
-use native.Mathlib.Omega.{arith}
-use Rattle.nest.specs.Nest.{max_dependences}
-use Rattle.sources.specs.Keys.{Behind}
-use Rattle.sources.proofs.Cursors.{behind-set}
+use Rattle.std.proofs.Common.{refl, ◌∙◌, arith, get_or, pos, length}
+use Rattle.sources.specs.Keys.{source_in}
+use Rattle.sequential.specs.declared.Edge.{Edge}
+use Rattle.sequential.specs.Edges.{weights_in, boundaries_in}
+use Rattle.integers.proofs.ListFacts.{get_d_map}
+use Rattle.sequential.proofs.EdgeLaws.{read-term}
 use Rattle.sequential.proofs.KeyLaws.{terms_none, terms_next, terms_all}
 use Rattle.sequential.proofs.next_value.Goals as goal
-use Rattle.sequential.proofs.next_value.Goals.{In-loop-i}
-
--- the turn's dependence is one of m
-turn : (d : In-loop-i) → (d.loop-i.i < d.args.m) × (d.loop-i.i < max_dependences)
-turn d = (d.loop-i-test.true, omega (arith, d.loop-i-test.true, d.requires.k_in_bounds.3))
+use Rattle.sequential.proofs.next_value.Goals.{Start}
 
 pub loop-i-init : goal.loop-i-init
 loop-i-init c =
     let a = c.args in
-    let z = terms_none a.keys.now a.distances.now a.weights.now a.boundaries.now a.values.now a.k in
-    (omega arith, omega (arith, z), omega arith, c.requires.behind)
-
-pub next_source-j-requires : goal.next_source-j-requires
-next_source-j-requires c =
-    let d = c in
-    let l = d.loop-i in
-    let s = d in
-    record {
-      k_in_bounds = (s.requires.k_in_bounds.0, (turn (goal.at.next_source-j-requires d).In-loop-i).1, (s.requires.by_index l.i (turn (goal.at.next_source-j-requires d).In-loop-i).0).0);
-      i_bound = l.invariant.3 l.i (turn (goal.at.next_source-j-requires d).In-loop-i).0;
-    }
-
-pub offset_bounds-boundaries-i : goal.offset_bounds-boundaries-i
-offset_bounds-boundaries-i c = omega (arith, (turn (goal.at.offset_bounds-boundaries-i c).In-loop-i).1)
-
-pub bounds-boundaries-i : goal.bounds-boundaries-i
-bounds-boundaries-i c = (turn (goal.at.bounds-boundaries-i c).In-loop-i).1
-
-pub overflow_cast-boundary : goal.overflow_cast-boundary
-overflow_cast-boundary c =
-    let d = c in
-    omega (arith, (d.requires.by_index d.loop-i.i (turn (goal.at.overflow_cast-boundary d).In-loop-i).0).2)
-
-pub offset_bounds-weights-i : goal.offset_bounds-weights-i
-offset_bounds-weights-i c = omega (arith, (turn (goal.at.offset_bounds-weights-i c).In-loop-i).1)
-
-pub bounds-weights-i : goal.bounds-weights-i
-bounds-weights-i c = (turn (goal.at.bounds-weights-i c).In-loop-i).1
-
-pub weighted-total-requires : goal.weighted-total-requires
-weighted-total-requires c =
-    let d = c in
-    let s = d in
-    (s.requires.k_in_bounds.2, (s.requires.by_index d.loop-i.i (turn (goal.at.weighted-total-requires d).In-loop-i).0).1)
-
-pub overflow_add-total : goal.overflow_add-total
-overflow_add-total c =
-    let d = c in
-    let s = d in
-    omega (arith, (turn (goal.at.overflow_add-total d).In-loop-i).1, d.loop-i.invariant.2, c.weighted-total.ensures.1, s.requires.k_in_bounds.0, s.requires.k_in_bounds.1)
+    let z = terms_none a.sources.now.keys.now a.sources.now.distances.now (weights_in a.edges.now) (boundaries_in a.edges.now) a.values.now a.sources.now.iteration in
+    record { sum = omega (arith, z); small = omega arith; same_keys = refl; same_distances = refl; same_iteration = refl }
 
 pub loop-i-preserved : goal.loop-i-preserved
 loop-i-preserved c =
-    let n = c in
-    let d = n in
-    let l = d.loop-i in
-    let a = d.args in (
-      omega (arith, d.loop-i-test.true),
-      terms_next a.keys.now a.distances.now a.weights.now a.boundaries.now a.values.now a.k l.i n.next_source-j.result l.total c.weighted-total.result l.invariant.1 n.next_source-j.ensures.value c.weighted-total.ensures.0,
-      omega (arith, l.invariant.2, c.weighted-total.ensures.1),
-      subst (Behind a.keys.now a.distances.now a.k a.m) (sym n.next_source-j.ensures.cursors_after) (behind-set a.keys.now a.distances.now a.m a.k l.i l.cursors l.invariant.3),
-    )
-
-pub overflow_cast-result : goal.overflow_cast-result
-overflow_cast-result c = omega arith
-
-pub returns : goal.returns
-returns c =
     let l = c.loop-i in
     let a = c.args in
-    record {
-      value = terms_all a.keys.now a.distances.now a.weights.now a.boundaries.now a.values.now a.k l.i a.m l.total l.invariant.1 (omega (arith, l.invariant.0, c.loop-i-test.false));
-      behind_2 = l.invariant.3;
+    let S = a.sources.now in
+    let es = a.edges.now in
+    let source = source_in S.keys.now S.iteration (get_or S.distances.now l.i (pos 0)) in
+    let found = rw (l.invariant.same_keys, l.invariant.same_distances, l.invariant.same_iteration) at c.source.ensures.value in
+    let weight = get_d_map (λ (e : Edge). e.weight) es l.i (record { weight = 0; boundary = 0 }) 0 c.loop-i-test.true in
+    let boundary = get_d_map (λ (e : Edge). e.boundary) es l.i (record { weight = 0; boundary = 0 }) 0 c.loop-i-test.true in
+    let x = rw (← weight, ← boundary) at c.read-total.ensures.value in
+    let t = read-term c.source.result (length S.keys.now) source a.values.now (get_or (weights_in es) l.i 0) (get_or (boundaries_in es) l.i 0) c.read-total.result c.requires.room found x in record {
+      sum = terms_next S.keys.now S.distances.now (weights_in es) (boundaries_in es) a.values.now S.iteration l.i source l.total c.read-total.result l.invariant.sum refl t;
+      small = omega (arith, l.invariant.small, c.read-total.ensures.upper_bound);
+      same_keys = c.source.ensures.keys ∙ l.invariant.same_keys;
+      same_distances = c.source.ensures.distances ∙ l.invariant.same_distances;
+      same_iteration = c.source.ensures.iteration ∙ l.invariant.same_iteration;
     }
+
+pub returns-clause-value : goal.returns-clause-value
+returns-clause-value c =
+    let l = c.loop-i in
+    let a = c.args in
+    terms_all a.sources.now.keys.now a.sources.now.distances.now (weights_in a.edges.now) (boundaries_in a.edges.now) a.values.now a.sources.now.iteration l.i (length a.edges.now) l.total l.invariant.sum (omega (arith, c.loop-i-test.false))

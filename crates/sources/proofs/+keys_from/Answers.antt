@@ -1,229 +1,179 @@
--- `keys_from` meets its contract, by the number of loops that are left. Assumes nothing.
-use mathlib.Core.Path.{◌≡◌, sym, ap, ap₂, ◌∙◌}
-use mathlib.Core.List.{List, [], ◌∷◌, map}
-use Prim.Native.Nat.{ℕ, ◌+◌, ◌-◌, ◌^◌, ◌<◌, ◌≤◌}
+-- `keys_from` meets its contract. Assumes nothing.
+use Rattle.std.proofs.Common.{◌≡◌, ◌∙◌, ap, ap₂, sym, subst, subst₂, arith, to_z, w64, length, ℕ, ◌+◌, ◌-◌, ◌^◌, ◌<◌, ◌≤◌, Bool, true, false, ◌==◌, ℤ, List, take, nat_abs, pos, ◌+ℤ◌, map, ◌++◌, drop, [], ◌∷◌, length-take, length-drop}
+use borrow.Author.Tests.{eqb-true, eqb-false}
 use native.Mathlib.Nat as NatL
-use native.Mathlib.Omega.{arith}
-use lib.IntN.{ℤ, pos, nat_abs, ◌+ℤ◌, ◌*ℤ◌}
-use lib.ListN.{length, get_or}
-use lib.Seq.{sets}
-use mir.Facts.{to_z-of_z, to_z_pos}
-use mir.Syntax.{w64}
-use mir.Val.{to_z}
-use Rattle.integers.proofs.Bounds.{told}
-use Rattle.integers.proofs.Machine.{reads, Given, Within, fits, fits_g, read, read_g}
-use Rattle.integers.proofs.Solver.{var, con, ◌⊕◌, ◌⊗◌}
-use Rattle.nest.specs.Nest.{Limit, limit_at, max_limit}
+use mir.Facts.{to_z-of_z}
+use Rattle.integers.proofs.Machine.{reads}
+use Rattle.sources.specs.Loops.{limit_of, limits_in}
+use Rattle.sources.specs.Keys.{base, key_from}
+use Rattle.integers.specs.Lists.{any}
+use Rattle.integers.proofs.Lists.{any-one}
+use Rattle.nest.specs.Nest.{max_depth}
+use Rattle.nest.specs.Refusals.{crossed}
+use Rattle.sources.specs.declared.Limits.{Limits}
 use Rattle.nest.specs.Points.{extent, points, point_count}
-use Rattle.nest.proofs.Conditions.{uncrossed}
-use Rattle.nest.proofs.Counted.{extent-within}
-use Rattle.sources.specs.Keys.{base, key_from, max_key}
-use Rattle.sources.specs.Loops.{limits_from}
-use Rattle.sources.proofs.Walk.{Split, split_loops, prefix_size, prefix_most, walk_none, walk_turn, walk_out, walk_room, next_prefix}
+use Rattle.sources.proofs.Steps.{Loops, some_loops, first_held}
+use Rattle.sources.proofs.Walk.{outer_of, inner_of, only-loop, row_count, walk_none, WalkedTo, walk_turn, walk_out, walk_room}
 use Rattle.sources.proofs.+keys_from.Goals as goal
-use Rattle.sources.proofs.+keys_from.Goals.{then-left-eq2, else-left-eq2, Start, In-loop-q, Joined-left-eq2, After-extent_of-count}
+use Rattle.sources.proofs.+keys_from.Goals.{Start, After-extent_of-count, In-loop-q, Joined-inner-eq1, After-loop-q, then-inner-eq1, else-inner-eq1}
 
--- ---- at the start: loop k and the loops inside it
+-- what `is_empty` says
+empty : (n : ℕ) (b : Bool) → b ≡ (n == 0) → b ≡ true → n ≡ 0
+empty n b e t = eqb-true n 0 (sym e ∙ t)
+
+filled : (n : ℕ) (b : Bool) → b ≡ (n == 0) → b ≡ false → 1 ≤ n
+filled n b e t = let f = eqb-false n 0 (sym e ∙ t) in omega (arith, f)
+
 module _ (t : ℕ) where
-  abbrev St : Type 0
-  St = Start t
+  loops : (d : Start t) → Loops d.args.loops.now d.args.prefix
+  loops d = some_loops d.args.loops.now d.args.prefix d.requires.0 d.requires.1 d.requires.2 d.requires.3
 
-  abbrev low : St → ℤ
-  low d = get_or d.args.lower.now d.args.k (pos 0)
+  count : (c : After-extent_of-count t) → c.extent_of-count.result ≡ extent (limit_of (outer_of c.args.loops.now))
+  count c = let o = loops (goal.at.After-extent_of-count t c).Start in rw (o.fine.lower_read, o.fine.upper_read) at c.extent_of-count.ensures
 
-  abbrev loop : St → Limit
-  loop d = limit_at d.args.lower.now d.args.upper.now d.args.k
+  -- so far
+  walked : (i : In-loop-q t) → WalkedTo i.args.loops.now i.args.prefix (loops (goal.at.In-loop-q t i).Start).split i.args.keys.now (first_held i.args.prefix (outer_of i.args.loops.now).lower) i.loop-q.q i.loop-q.written i.loop-q.keys
+  walked i = (i.loop-q.invariant.written_so_far, i.loop-q.invariant.table)
 
-  abbrev inner : St → List Limit
-  inner d = limits_from d.args.lower.now d.args.upper.now (d.args.k + 1) (d.args.left - 1)
+  below : (i : In-loop-q t) → i.loop-q.q < extent (limit_of (outer_of i.args.loops.now))
+  below i = omega (arith, count (goal.at.In-loop-q t i).After-extent_of-count, i.loop-q-test.true)
 
-  parts : (d : St) → Split d.args.lower.now d.args.upper.now d.args.k d.args.left
-  parts d = split_loops d.args.lower.now d.args.upper.now d.args.k d.args.left d.requires.0 d.requires.3
-
-  low-size : (d : St) → nat_abs (low d) ≤ max_limit
-  low-size d = (uncrossed (low d) (loop d).upper (parts d).fine).lower_size
-
-  extent-most : (d : St) → extent (loop d) ≤ max_limit + max_limit + 1
-  extent-most d = extent-within (low d) (loop d).upper (parts d).fine
-
-  -- the digits of the outer indices, and the first key
-  abbrev ρ : St → List ℤ
-  ρ d = d.args.prefix ∷ low d ∷ []
-
-  abbrev β : List ℕ
-  β = max_key ∷ max_limit ∷ []
-
-  within : (d : St) → Within (ρ d) β
-  within d = (prefix_most d.args.prefix d.args.k (omega (arith, d.requires.1)) d.requires.2, (low-size d, tt))
-
-  abbrev first : St → ℤ
-  first d = d.args.prefix *ℤ pos base +ℤ low d
-
-  -- what the machine has for it
-  abbrev held : St → ℤ
-  held d = reads (reads (reads d.args.prefix *ℤ pos base) +ℤ reads (low d))
-
-  first-is : (d : St) → held d ≡ first d
-  first-is d = read (ρ d) β (var 0 ⊗ con (pos base) ⊕ var 1) (within d) tt
-
-  first-size : (d : St) → nat_abs (first d) + nat_abs (first d) < base ^ (d.args.k + 1)
-  first-size d = prefix_size d.args.prefix (low d) d.args.k d.requires.2 (low-size d)
-
-  first-most : (d : St) → nat_abs (first d) ≤ max_key
-  first-most d = prefix_most (first d) (d.args.k + 1) (omega (arith, d.requires.1, d.requires.0)) (first-size d)
-
-  -- the number of indices
-  abbrev Ex : Type 0
-  Ex = After-extent_of-count t
-
-  abbrev st : Ex → St
-  st c = c.before.before.before.before.before
-
-  count_is : (c : Ex) → c.extent_of-count.result ≡ extent (loop (st c))
-  count_is c = rw (told (low (st c)) c.extent_of-arg-1.given, told (loop (st c)).upper c.extent_of-arg-2-1.given) at c.extent_of-count.ensures
-
-  -- in the loop: the first key and the number of the turn
-  abbrev Turn : Type 0
-  Turn = In-loop-q t
-
-  abbrev begun : Turn → St
-  begun i = st i.before.before
-
-  below : (i : Turn) → i.loop-q.q < extent (loop (begun i))
-  below i = omega (arith, rw (told (low (begun i)) i.extent_of-arg-1.given, told (loop (begun i)).upper i.extent_of-arg-2-1.given) at i.extent_of-count.ensures, i.loop-q-test.true)
-
-  abbrev μ' : Turn → List ℤ
-  μ' i = held (begun i) ∷ to_z w64 i.loop-q.q ∷ []
-
-  abbrev ρ' : Turn → List ℤ
-  ρ' i = first (begun i) ∷ pos i.loop-q.q ∷ []
-
-  abbrev β' : List ℕ
-  β' = max_key ∷ (max_limit + max_limit + 1) ∷ []
-
-  given' : (i : Turn) → Given (μ' i) (ρ' i) β'
-  given' i =
-      let d = begun i in
-      let q : i.loop-q.q ≤ max_limit + max_limit + 1 = omega (arith, below i, extent-most d) in
-      ((first-is d, first-most d), ((to_z_pos w64 (omega arith), q), tt))
-
-  -- the digits that are handed on
-  abbrev handed : Turn → ℤ
-  handed i = reads (held (begun i) +ℤ to_z w64 i.loop-q.q)
-
-  key-is : (i : Turn) → handed i ≡ first (begun i) +ℤ pos i.loop-q.q
-  key-is i = read_g (μ' i) (ρ' i) β' (var 0 ⊕ var 1) (given' i) tt
-
-  -- they are in span
-  handed-size : (i : Turn) → nat_abs (handed i) + nat_abs (handed i) < base ^ ((begun i).args.k + 1)
-  handed-size i =
-      let d = begun i in
-      rw (key-is i) (next_prefix d.args.lower.now d.args.upper.now d.args.k d.args.left d.args.prefix (parts d) d.args.keys.now d.args.at i.loop-q.q (below i) d.requires.2)
-
-  -- what is behind them is in the table
-  room : (i : Turn) → i.loop-q.next + point_count (inner (begun i)) ≤ length i.loop-q.keys
+  room : (i : In-loop-q t) → i.loop-q.written + point_count (limits_in (inner_of i.args.loops.now)) ≤ length i.loop-q.keys
   room i =
-      let d = begun i in
-      let l = i.loop-q in
-      walk_room d.args.lower.now d.args.upper.now d.args.k d.args.left d.args.prefix (parts d) d.args.keys.now d.args.at (held d) l.q l.next l.keys (l.invariant.1, l.invariant.2) (below i) d.requires.4
+      let d = (goal.at.In-loop-q t i).Start in
+      walk_room i.args.loops.now i.args.prefix (loops d).split i.args.keys.now (first_held i.args.prefix (outer_of i.args.loops.now).lower) i.loop-q.q i.loop-q.written i.loop-q.keys (walked i) (below i) i.requires.4
 
-  -- one loop is left inside, or more
-  left_one : (d : St) → d.args.left ≡ 2 → 1 ≡ d.args.left - 1
-  left_one d h = omega arith
+pub row_from-requires : goal.row_from-requires
+row_from-requires t c =
+    let d = (goal.at.row_from-requires t c).Start in
+    let o = loops t d in
+    let n : length (inner_of c.args.loops.now) ≡ 0 = empty _ _ c.is_empty.ensures c.if-is_empty.true in
+    let e : max_depth - length c.args.loops.now ≡ max_depth - 1 = omega (arith, o.split.fewer, n) in
+    let h : nat_abs c.args.prefix + nat_abs c.args.prefix < base ^ (max_depth - 1) = subst (λ k. nat_abs c.args.prefix + nat_abs c.args.prefix < base ^ k) e c.requires.2 in
+    (rw (to_z-of_z c.ranges.prefix) h, o.split.fine, omega (arith, c.requires.4, row_count (limit_of (outer_of c.args.loops.now)), ap point_count (only-loop c.args.loops.now (omega (arith, o.split.fewer, n)))))
 
-  left-more : (n : ℕ) → 1 ≤ n → (n ≡ 1 → ⊥) → 1 ≤ n - 1
-  left-more n h f = omega (arith, f)
+pub returns-then-is_empty-clause-value : goal.returns-then-is_empty-clause-value
+returns-then-is_empty-clause-value t c =
+    let o = loops t (goal.at.returns-then-is_empty-clause-value t c).Start in
+    let n = empty _ _ c.is_empty.ensures c.if-is_empty.true in
+    c.row_from.ensures.value ∙ sym (ap point_count (only-loop c.args.loops.now (omega (arith, o.split.fewer, n))) ∙ row_count (limit_of (outer_of c.args.loops.now)))
 
-  -- where it is one
-  inner-one : (d : St) → d.args.left ≡ 2 → limits_from d.args.lower.now d.args.upper.now (d.args.k + 1) 1 ≡ inner d
-  inner-one d h = ap (limits_from d.args.lower.now d.args.upper.now (d.args.k + 1)) (left_one d h)
-
-  -- behind either call the keys of the points of the loops inside are written
-  written : (c : Joined-left-eq2 t)
-      → (c.if-left-eq2.next ≡ c.loop-q.next + point_count (inner (begun c.before)))
-      × (c.if-left-eq2.keys ≡ sets c.loop-q.keys c.loop-q.next (map (key_from (handed c.before)) (points (inner (begun c.before)))))
-  written c =
-      let l = c.loop-q in
-      elim c.if-left-eq2.branch [
-        | then-left-eq2 w ↦
-            let one = inner-one (begun c.before) w.if-left-eq2.true in (
-              w.next-is ∙ w.row_from-next.ensures.value ∙ ap (λ ls. l.next + point_count ls) one,
-              w.keys-is ∙ w.row_from-next.ensures.keys_after ∙ ap (λ ls. sets l.keys l.next (map (key_from (handed c.before)) (points ls))) one,
-            )
-        | else-left-eq2 w ↦ (w.next-is ∙ w.keys_from-next.ensures.value, w.keys-is ∙ w.keys_from-next.ensures.keys_after)
-      ]
-
-pub returns-then-left-eq1 : goal.returns-then-left-eq1
-returns-then-left-eq1 t c =
-    let d = c.before.before.before.before in
-    let a = d.args in
-    let one = sym c.if-left-eq1.true in record {
-      value = c.row_from.ensures.value ∙ ap (λ n. a.at + point_count (limits_from a.lower.now a.upper.now a.k n)) one;
-      keys_after = c.row_from.ensures.keys_after ∙ ap₂ (λ (z : ℤ) (n : ℕ). sets a.keys.now a.at (map (key_from z) (points (limits_from a.lower.now a.upper.now a.k n)))) (to_z-of_z d.ranges.prefix) one;
-    }
+pub returns-then-is_empty-clause-keys_after : goal.returns-then-is_empty-clause-keys_after
+returns-then-is_empty-clause-keys_after t c =
+    let o = loops t (goal.at.returns-then-is_empty-clause-keys_after t c).Start in
+    let n = empty _ _ c.is_empty.ensures c.if-is_empty.true in
+    let l = only-loop c.args.loops.now (omega (arith, o.split.fewer, n)) in
+    c.row_from.ensures.keys_after
+    ∙ ap₂ (λ (z : ℤ) (i : ℕ). map (key_from z) (points (limit_of (outer_of c.args.loops.now) ∷ [])) ++ drop i c.args.keys.now) (to_z-of_z c.ranges.prefix) (sym (row_count (limit_of (outer_of c.args.loops.now))))
+    ∙ ap (λ ls. map (key_from c.args.prefix) (points ls) ++ drop (point_count ls) c.args.keys.now) (sym l)
 
 pub overflow_mul-first : goal.overflow_mul-first
-overflow_mul-first t c = fits (ρ t c.before) (β t) (var 0 ⊗ con (pos base)) (within t c.before) tt
+overflow_mul-first t c = (loops t (goal.at.overflow_mul-first t c).Start).first.product
 
 pub overflow_add-first : goal.overflow_add-first
-overflow_add-first t c = fits (ρ t c.before.before) (β t) (var 0 ⊗ con (pos base) ⊕ var 1) (within t c.before.before) tt
+overflow_add-first t c = (loops t (goal.at.overflow_add-first t c).Start).first.sum
 
 pub extent_of-count-requires : goal.extent_of-count-requires
-extent_of-count-requires t c = let d = c.before.before.before.before in rw (told (low t d) c.extent_of-arg-1.given, told (loop t d).upper c.extent_of-arg-2-1.given) (parts t d).fine
+extent_of-count-requires t c = let o = loops t (goal.at.extent_of-count-requires t c).Start in rw (o.fine.lower_read, o.fine.upper_read) o.split.fine
 
 pub loop-q-init : goal.loop-q-init
-loop-q-init t c =
-    let d = st t c in
-    (omega arith, omega (arith, NatL.zero-mul (point_count (inner t d))), walk_none d.args.keys.now d.args.at (inner t d) (λ i. held t d +ℤ pos i))
+loop-q-init t c = record {
+  within = omega arith;
+  written_so_far = sym (NatL.zero-mul (point_count (limits_in (inner_of c.args.loops.now))));
+  table = walk_none c.args.keys.now (limits_in (inner_of c.args.loops.now)) (λ i. first_held c.args.prefix (outer_of c.args.loops.now).lower +ℤ pos i);
+}
 
-pub overflow_cast-q : goal.overflow_cast-q
-overflow_cast-q t c = let i = c.before in omega (arith, below t i, extent-most t (begun t i))
+pub overflow_cast-behind : goal.overflow_cast-behind
+overflow_cast-behind t c = let i = (goal.at.overflow_cast-behind t c).In-loop-q in omega (arith, below t i, (loops t (goal.at.overflow_cast-behind t c).Start).fine.few)
 
-pub overflow_add-first-then-left-eq2 : goal.overflow_add-first-then-left-eq2
-overflow_add-first-then-left-eq2 t c = let i = c.before in fits_g (μ' t i) (ρ' t i) (β' t) (var 0 ⊕ var 1) (given' t i) tt
+pub overflow_add-behind : goal.overflow_add-behind
+overflow_add-behind t c = let i = (goal.at.overflow_add-behind t c).In-loop-q in ((loops t (goal.at.overflow_add-behind t c).Start).next c.loop-q.q (below t i)).sum
 
-pub row_from-next-requires : goal.row_from-next-requires
-row_from-next-requires t c =
-    let i = c.before.before in
-    let d = begun t i in
-    let one = inner-one t d c.if-left-eq2.true in
-    (omega (arith, d.requires.1, c.if-left-eq2.true), handed-size t i, rw one (parts t d).inner_fine, rw one (room t i))
+pub offset_bounds-keys-written : goal.offset_bounds-keys-written
+offset_bounds-keys-written t c = omega (arith, room t (goal.at.offset_bounds-keys-written t c).In-loop-q)
 
-pub overflow_cast-q-else-left-eq2 : goal.overflow_cast-q-else-left-eq2
-overflow_cast-q-else-left-eq2 t c = let i = c.before in omega (arith, below t i, extent-most t (begun t i))
+pub slice_bounds-rest-count : goal.slice_bounds-rest-count
+slice_bounds-rest-count t c = omega (arith, room t (goal.at.slice_bounds-rest-count t c).In-loop-q)
 
-pub overflow_add-first-else-left-eq2 : goal.overflow_add-first-else-left-eq2
-overflow_add-first-else-left-eq2 t c = let i = c.before in fits_g (μ' t i) (ρ' t i) (β' t) (var 0 ⊕ var 1) (given' t i) tt
+pub slice_bounds-rest-start : goal.slice_bounds-rest-start
+slice_bounds-rest-start t c = omega (arith, room t (goal.at.slice_bounds-rest-start t c).In-loop-q)
 
-pub keys_from-next-requires : goal.keys_from-next-requires
-keys_from-next-requires t c =
-    let i = c.before.before in
-    let d = begun t i in (
-      omega (arith, d.decreases, d.requires.0),
+-- where one loop is inside
+one-inside : (ls : List Limits) → length (inner_of ls) ≡ 1 → limits_in (inner_of ls) ≡ limit_of (outer_of (inner_of ls)) ∷ []
+one-inside ls h = only-loop (inner_of ls) h
+
+pub row_from-requires-then-inner-eq1 : goal.row_from-requires-then-inner-eq1
+row_from-requires-then-inner-eq1 t c =
+    let i = (goal.at.row_from-requires-then-inner-eq1 t c).In-loop-q in
+    let o = loops t (goal.at.row_from-requires-then-inner-eq1 t c).Start in
+    let ls = c.args.loops.now in
+    let e = one-inside ls c.if-inner-eq1.true in
+    let k : max_depth - length (inner_of ls) ≡ max_depth - 1 = ap (λ n. max_depth - n) c.if-inner-eq1.true in
+    let x = o.next_size c.loop-q.q (below t i) in (
+      rw (o.next c.loop-q.q (below t i)).is (rw k at x),
+      sym (any-one crossed (limit_of (outer_of (inner_of ls)))) ∙ ap (any crossed) (sym e) ∙ o.split.inner_fine,
+      simp (length-take, length-drop) (omega (arith, room t i, ap point_count e, row_count (limit_of (outer_of (inner_of ls))))),
+    )
+
+pub keys_from-requires : goal.keys_from-requires
+keys_from-requires t c =
+    let i = (goal.at.keys_from-requires t c).In-loop-q in
+    let o = loops t (goal.at.keys_from-requires t c).Start in (
+      omega (arith, c.decreases, o.split.fewer),
       (
-        left-more t d.args.left d.requires.0 i.if-left-eq1.false,
-        omega (arith, d.requires.1, d.requires.0),
-        handed-size t i,
-        (parts t d).inner_fine,
-        room t i,
+        filled _ _ c.is_empty.ensures c.if-is_empty.false,
+        omega (arith, c.requires.1, o.split.fewer),
+        rw (o.next c.loop-q.q (below t i)).is (o.next_size c.loop-q.q (below t i)),
+        o.split.inner_fine,
+        simp (length-take, length-drop) (omega (arith, room t i)),
       ),
     )
 
+module _ (t : ℕ) where
+  -- the machine's digits with one index more
+  abbrev behind : In-loop-q t → ℤ
+  behind i = reads (first_held i.args.prefix (outer_of i.args.loops.now).lower +ℤ to_z w64 i.loop-q.q)
+
+  -- behind either call
+  turned : (c : Joined-inner-eq1 t) → (c.if-inner-eq1.written ≡ point_count (limits_in (inner_of c.args.loops.now)))
+      × WalkedTo c.args.loops.now c.args.prefix (loops t (goal.at.Joined-inner-eq1 t c).Start).split c.args.keys.now (first_held c.args.prefix (outer_of c.args.loops.now).lower) (c.loop-q.q + 1) (c.loop-q.written + c.if-inner-eq1.written) c.if-inner-eq1.keys
+  turned c =
+      let i = (goal.at.Joined-inner-eq1 t c).In-loop-q in
+      let o = loops t (goal.at.Joined-inner-eq1 t c).Start in
+      let ls = c.args.loops.now in
+      let f = first_held c.args.prefix (outer_of ls).lower in
+      let n = (o.next c.loop-q.q (below t i)).is ∙ ap (λ (z : ℤ). z +ℤ pos c.loop-q.q) (sym o.first.is) in
+      let Out : ℕ → List ℤ → Type 0 = λ r cur. (r ≡ point_count (limits_in (inner_of ls))) × WalkedTo ls c.args.prefix o.split c.args.keys.now f (c.loop-q.q + 1) (c.loop-q.written + r) cur in
+      elim c.if-inner-eq1.branch [
+        | then-inner-eq1 w ↦
+            let e = one-inside ls w.if-inner-eq1.true in
+            let x = w.row_from-then-inner-eq1 in
+            let r = x.ensures.value ∙ sym (ap point_count e ∙ row_count (limit_of (outer_of (inner_of ls)))) in
+            let k = x.ensures.keys_after ∙ ap (λ j. map (key_from (behind i)) (points (limit_of (outer_of (inner_of ls)) ∷ [])) ++ drop j (take (length c.loop-q.keys - c.loop-q.written) (drop c.loop-q.written c.loop-q.keys))) (sym (row_count (limit_of (outer_of (inner_of ls)))))
+            ∙ ap (λ ms. map (key_from (behind i)) (points ms) ++ drop (point_count ms) (take (length c.loop-q.keys - c.loop-q.written) (drop c.loop-q.written c.loop-q.keys))) (sym e) in
+            subst₂ Out (sym w.written-is) (sym w.keys-is) (r, walk_turn ls c.args.prefix o.split c.args.keys.now f (behind i) c.loop-q.q c.loop-q.written x.result c.loop-q.keys x.new.keys (walked t i) n r k)
+        | else-inner-eq1 w ↦
+            let x = w.keys_from in
+            subst₂ Out (sym w.written-is) (sym w.keys-is) (x.ensures.value, walk_turn ls c.args.prefix o.split c.args.keys.now f (behind i) c.loop-q.q c.loop-q.written x.result c.loop-q.keys x.new.keys (walked t i) n x.ensures.value x.ensures.keys_after)
+      ]
+
+pub overflow_add-written : goal.overflow_add-written
+overflow_add-written t c = omega (arith, room t (goal.at.overflow_add-written t c).In-loop-q, (turned t (goal.at.overflow_add-written t c).Joined-inner-eq1).0)
+
 pub loop-q-preserved : goal.loop-q-preserved
 loop-q-preserved t c =
-    let i = c.before in
-    let d = begun t i in
-    let l = i.loop-q in
-    let n = written t c in
-    let w = walk_turn d.args.lower.now d.args.upper.now d.args.k d.args.left d.args.prefix (parts t d) d.args.keys.now d.args.at (held t d) (handed t i) l.q l.next c.if-left-eq2.next l.keys c.if-left-eq2.keys
-    (l.invariant.1, l.invariant.2) (key-is t i ∙ ap (λ (z : ℤ). z +ℤ pos l.q) (sym (first-is t d))) n.0 n.1 in
-    (omega (arith, i.loop-q-test.true), w.0, w.1)
+    let w = (turned t (goal.at.loop-q-preserved t c).Joined-inner-eq1).1 in
+    record { within = omega (arith, c.loop-q-test.true); written_so_far = w.0; table = w.1 }
 
-pub returns : goal.returns
-returns t c =
-    let e = c.before.before in
-    let d = st t e in
-    let l = c.loop-q in
-    let w = walk_out d.args.lower.now d.args.upper.now d.args.k d.args.left d.args.prefix (parts t d) d.args.keys.now d.args.at (held t d) e.extent_of-count.result l.q l.next l.keys
-    (l.invariant.1, l.invariant.2) (first-is t d) (rw (told (low t d) c.extent_of-arg-1.given, told (loop t d).upper c.extent_of-arg-2-1.given) at c.extent_of-count.ensures) l.invariant.0 (omega (arith, c.loop-q-test.false)) in
-    record { value = w.0; keys_after = w.1 }
+module _ (t : ℕ) where
+  done : (c : After-loop-q t) → (c.loop-q.written ≡ point_count (limits_in c.args.loops.now)) × (c.loop-q.keys ≡ map (key_from c.args.prefix) (points (limits_in c.args.loops.now)) ++ drop (point_count (limits_in c.args.loops.now)) c.args.keys.now)
+  done c =
+      let o = loops t (goal.at.After-loop-q t c).Start in
+      walk_out c.args.loops.now c.args.prefix o.split c.args.keys.now (first_held c.args.prefix (outer_of c.args.loops.now).lower) c.extent_of-count.result c.loop-q.q c.loop-q.written c.loop-q.keys
+      (c.loop-q.invariant.written_so_far, c.loop-q.invariant.table) o.first.is (count t (goal.at.After-loop-q t c).After-extent_of-count) c.loop-q.invariant.within (omega (arith, c.loop-q-test.false))
+
+pub returns-clause-value : goal.returns-clause-value
+returns-clause-value t c = (done t c).0
+
+pub returns-clause-keys_after : goal.returns-clause-keys_after
+returns-clause-keys_after t c = (done t c).1

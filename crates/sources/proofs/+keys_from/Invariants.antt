@@ -1,17 +1,16 @@
--- The number of loops that are left falls. The loop's invariant: the table has the keys behind the first q indices of loop k. Assumes nothing.
-use mathlib.Core.Path.{◌≡◌}
-use Prim.Native.Nat.{◌+◌, ◌*◌, ◌-◌, ◌≤◌}
-use lib.IntN.{pos, ◌+ℤ◌}
-use lib.Seq.{sets}
+-- The number of loops that are left falls. The loop's invariant: the table has the keys behind the first q indices of the outer loop. Assumes nothing.
+use Rattle.std.proofs.Common.{◌≡◌, ◌++◌, ◌*◌, ◌≤◌, drop, length, pos, ◌+ℤ◌}
 use Rattle.nest.specs.Points.{points, point_count}
-use Rattle.sources.specs.Loops.{limits_from}
+use Rattle.sources.specs.Loops.{limits_in}
 use Rattle.sources.proofs.Walk.{behind_each}
 use Rattle.sources.proofs.+keys_from.Given as goal
 
 abbrev pub decreases-keys_from : goal.decreases-keys_from
-decreases-keys_from l = l.left
+decreases-keys_from l = length l.loops.now
 
 abbrev pub invariant-loop-q : goal.invariant-loop-q
-invariant-loop-q l =
-    (l.q ≤ l.count) × (l.next ≡ l.at + l.q * point_count (limits_from l.lower l.upper (l.k + 1) (l.left - 1)))
-    × (l.keys ≡ sets l.initial.keys l.at (behind_each (points (limits_from l.lower l.upper (l.k + 1) (l.left - 1))) (λ i. l.first +ℤ pos i) l.q))
+invariant-loop-q l = record {
+  within : l.q ≤ l.count;
+  written_so_far : l.written ≡ l.q * point_count (limits_in l.inner);
+  table : l.keys ≡ behind_each (points (limits_in l.inner)) (λ i. l.first +ℤ pos i) l.q ++ drop l.written l.initial.keys;
+}

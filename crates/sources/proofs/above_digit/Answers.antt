@@ -4,7 +4,7 @@ use mathlib.Core.List.{List, [], ◌∷◌}
 use Prim.Native.Nat.{ℕ, ◌^◌}
 use lib.IntN.{ℤ, pos}
 use lib.Signed.{shr_z}
-use Rattle.integers.proofs.Machine.{reads, Within, fits, read}
+use Rattle.integers.proofs.Machine.{reads, Within, read}
 use Rattle.integers.proofs.Solver.{var, con, ◌⊕◌}
 use Rattle.sources.specs.Keys.{half, max_key, above}
 use Rattle.sources.proofs.Digits.{shifted, above-small}
@@ -19,9 +19,6 @@ abbrev β : List ℕ
 
 within : (c : Start) → Within (ρ c) β
 within c = (c.requires, tt)
-
-pub overflow_add-result : goal.overflow_add-result
-overflow_add-result c = fits (ρ c) β (var 0 ⊕ con (pos half)) (within c) tt
 
 pub returns : goal.returns
 returns c =

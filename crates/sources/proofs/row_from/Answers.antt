@@ -1,97 +1,34 @@
 -- `row_from` meets its contract. Assumes nothing.
-use mathlib.Core.Path.{◌≡◌, sym, ap, ap₂, ◌∙◌}
-use mathlib.Core.List.{List, [], ◌∷◌}
-use Prim.Native.Nat.{ℕ, ◌+◌, ◌≤◌}
-use native.Mathlib.Omega.{arith}
-use lib.IntN.{ℤ, pos, nat_abs, ◌+ℤ◌, ◌*ℤ◌}
-use lib.ListN.{length, get_or}
-use lib.Seq.{sets}
-use Rattle.integers.proofs.Bounds.{told}
-use Rattle.integers.specs.Lists.{tab}
-use Rattle.integers.proofs.Machine.{reads, Within, fits, read}
-use Rattle.integers.proofs.Solver.{var, con, ◌⊕◌, ◌⊗◌}
-use Rattle.nest.specs.Nest.{Limit, limit_at, max_limit}
+use Rattle.std.proofs.Common.{◌≡◌, subst, nat_abs, ◌≤◌, ℤ, sym, ◌-◌, arith, length-take-le}
+use Rattle.nest.specs.Nest.{max_depth}
 use Rattle.nest.specs.Points.{extent}
-use Rattle.nest.proofs.Conditions.{uncrossed}
-use Rattle.nest.proofs.Counted.{extent-within}
-use Rattle.sources.specs.Keys.{base, max_key}
-use Rattle.sources.proofs.Walk.{Split, split_loops, prefix_size, prefix_most, row_count, row_is}
+use Rattle.sources.specs.Keys.{max_key}
+use Rattle.sources.specs.Loops.{limit_of}
+use Rattle.sources.proofs.Steps.{FineLimits, fine_limits, FirstKey, first_key, first_held}
+use Rattle.sources.proofs.Walk.{row_done}
 use Rattle.sources.proofs.row_from.Goals as goal
-use Rattle.sources.proofs.row_from.Goals.{After-extent_of-count, Start}
+use Rattle.sources.proofs.row_from.Goals.{Start, After-extent_of-count}
 
-abbrev low : Start → ℤ
-low d = get_or d.args.lower.now d.args.k (pos 0)
+fine : (d : Start) → FineLimits d.args.limits
+fine d = fine_limits d.args.limits d.requires.1
 
-abbrev loop : Start → Limit
-loop d = limit_at d.args.lower.now d.args.upper.now d.args.k
+first : (d : Start) → FirstKey d.args.prefix d.args.limits.lower (max_depth - 1)
+first d = first_key d.args.prefix d.args.limits.lower (max_depth - 1) (omega arith) d.requires.0 (fine d).lower_size
 
-parts : (d : Start) → Split d.args.lower.now d.args.upper.now d.args.k 1
-parts d = split_loops d.args.lower.now d.args.upper.now d.args.k 1 (omega arith) d.requires.2
-
-low-size : (d : Start) → nat_abs (low d) ≤ max_limit
-low-size d = (uncrossed (low d) (loop d).upper (parts d).fine).lower_size
-
-extent-most : (d : Start) → extent (loop d) ≤ max_limit + max_limit + 1
-extent-most d = extent-within (low d) (loop d).upper (parts d).fine
-
-abbrev ρ : Start → List ℤ
-ρ d = d.args.prefix ∷ low d ∷ []
-
-abbrev β : List ℕ
-β = max_key ∷ max_limit ∷ []
-
-within : (d : Start) → Within (ρ d) β
-within d = (prefix_most d.args.prefix d.args.k (omega (arith, d.requires.0)) d.requires.1, (low-size d, tt))
-
-abbrev first : Start → ℤ
-first d = d.args.prefix *ℤ pos base +ℤ low d
-
--- what the machine has for it
-abbrev held : Start → ℤ
-held d = reads (reads (reads d.args.prefix *ℤ pos base) +ℤ reads (low d))
-
-first-is : (d : Start) → held d ≡ first d
-first-is d = read (ρ d) β (var 0 ⊗ con (pos base) ⊕ var 1) (within d) tt
-
-first-most : (d : Start) → nat_abs (first d) ≤ max_key
-first-most d = prefix_most (first d) (d.args.k + 1) (omega (arith, d.requires.0)) (prefix_size d.args.prefix (low d) d.args.k d.requires.1 (low-size d))
-
-abbrev st : After-extent_of-count → Start
-st c = c.before.before.before.before
-
-count_is : (c : After-extent_of-count) → c.extent_of-count.result ≡ extent (loop (st c))
-count_is c = rw (told (low (st c)) c.extent_of-arg-1.given, told (loop (st c)).upper c.extent_of-arg-2-1.given) at c.extent_of-count.ensures
-
--- the row is in the table
-room : (c : After-extent_of-count) → (st c).args.at + c.extent_of-count.result ≤ length (st c).args.keys.now
-room c = let d = st c in omega (arith, count_is c, row_count d.args.lower.now d.args.upper.now d.args.k (parts d), d.requires.3)
-
-pub overflow_mul-first : goal.overflow_mul-first
-overflow_mul-first c = fits (ρ c) β (var 0 ⊗ con (pos base)) (within c) tt
+count : (c : After-extent_of-count) → c.extent_of-count.result ≡ extent (limit_of c.args.limits)
+count c = let f = fine (goal.at.After-extent_of-count c).Start in rw (f.lower_read, f.upper_read) at c.extent_of-count.ensures
 
 pub overflow_add-first : goal.overflow_add-first
-overflow_add-first c = fits (ρ c.before) β (var 0 ⊗ con (pos base) ⊕ var 1) (within c.before) tt
-
-pub extent_of-count-requires : goal.extent_of-count-requires
-extent_of-count-requires c = let d = c in rw (told (low d.before.before.before) c.extent_of-arg-1.given, told (loop d.before.before.before).upper c.extent_of-arg-2-1.given) (parts d.before.before.before).fine
+overflow_add-first c = (first (goal.at.overflow_add-first c).Start).sum
 
 pub row_into-requires : goal.row_into-requires
 row_into-requires c =
-    let e = c in
-    let d = st e.before in
-    (room e.before, rw (first-is d) (first-most d), omega (arith, count_is e.before, extent-most d))
+    let d = (goal.at.row_into-requires c).Start in
+    let f = first d in
+    let l = length-take-le c.extent_of-count.result c.args.keys.now (omega (arith, count (goal.at.row_into-requires c).After-extent_of-count, c.requires.2)) in
+    (subst (λ (z : ℤ). nat_abs z ≤ max_key) (sym f.is) f.most, omega (arith, l, count (goal.at.row_into-requires c).After-extent_of-count, (fine d).few))
 
-pub overflow_add-result : goal.overflow_add-result
-overflow_add-result c = let e = c in omega (arith, room e.before.before.before)
-
-pub returns : goal.returns
-returns c =
-    let e = c in
-    let d = st e.before.before.before in
-    let a = d.args in
-    let n = row_count a.lower.now a.upper.now a.k (parts d) in record {
-      value = omega (arith, n, count_is e.before.before.before);
-      keys_after = c.row_into.ensures
-          ∙ ap₂ (λ (z : ℤ) (m : ℕ). sets a.keys.now a.at (tab (λ i. z +ℤ pos i) m)) (first-is d) (count_is e.before.before.before)
-          ∙ ap (sets a.keys.now a.at) (sym (row_is a.lower.now a.upper.now a.k a.prefix (parts d)));
-    }
+pub returns-clause-keys_after : goal.returns-clause-keys_after
+returns-clause-keys_after c =
+    let a = c.args in
+    row_done (limit_of a.limits) a.prefix (first_held a.prefix a.limits.lower) c.extent_of-count.result a.keys.now c.row_into.new.row (first (goal.at.returns-clause-keys_after c).Start).is (count (goal.at.returns-clause-keys_after c).After-extent_of-count) c.requires.2 c.row_into.ensures

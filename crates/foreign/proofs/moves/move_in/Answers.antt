@@ -1,17 +1,18 @@
 -- `move_in` makes the move that the numbers ask for. Assumes nothing.
 use mathlib.Core.Path.{refl}
+use native.Mathlib.Omega.{arith}
 use borrow.Author.Tests.{eq-eqb, ne_eqb}
 use Rattle.foreign.specs.Numbers.{compute_kind, deliver_kind, move_in}
 use Rattle.foreign.proofs.moves.move_in.Goals as goal
 
-pub returns-then-kind-eq-COMPUTE : goal.returns-then-kind-eq-COMPUTE
+pub returns-in-1 : goal.returns-in-1
 unfolding move_in
-returns-then-kind-eq-COMPUTE c = rw (move_in, eq-eqb c.args.kind compute_kind c.if-kind-eq-COMPUTE.true) refl
+returns-in-1 c = rw (move_in, eq-eqb c.args.kind compute_kind c.in-1.is) refl
 
-pub returns-then-kind-eq-DELIVER : goal.returns-then-kind-eq-DELIVER
+pub returns-in-2 : goal.returns-in-2
 unfolding move_in
-returns-then-kind-eq-DELIVER c = rw (move_in, ne_eqb c.args.kind compute_kind c.if-kind-eq-COMPUTE.false, eq-eqb c.args.kind deliver_kind c.if-kind-eq-DELIVER.true) refl
+returns-in-2 c = rw (move_in, ne_eqb c.args.kind compute_kind (λ e. omega arith), eq-eqb c.args.kind deliver_kind c.in-2.is) refl
 
-pub returns : goal.returns
+pub returns-in_default : goal.returns-in_default
 unfolding move_in
-returns c = rw (move_in, ne_eqb c.args.kind compute_kind c.if-kind-eq-COMPUTE.false, ne_eqb c.args.kind deliver_kind c.if-kind-eq-DELIVER.false) refl
+returns-in_default c = rw (move_in, ne_eqb c.args.kind compute_kind (λ e. omega arith), ne_eqb c.args.kind deliver_kind (λ e. omega arith)) refl

@@ -1,12 +1,12 @@
 -- `multiplier` meets its contract. Assumes nothing.
-use mathlib.Core.Path.{sym, ◌∙◌, subst}
+use mathlib.Core.Path.{refl, sym, ◌∙◌, subst}
 use native.Mathlib.Omega.{arith}
 use lib.Dec.{lit≤}
 use Rattle.integers.proofs.Bounds.{told}
 use Rattle.integers.specs.Vector.{AllWithin}
 use Rattle.integers.proofs.Vector.{all_wider}
 use Rattle.grouping.specs.Projection.{projection}
-use Rattle.grouping.proofs.Four.{dot_within, projection-within, length-four-projection}
+use Rattle.grouping.proofs.Four.{dot_within, projection-within}
 use Rattle.grouping.proofs.Smallest.{period_multiplier}
 use Rattle.grouping.proofs.arithmetic.multiplier.Goals as goal
 
@@ -16,7 +16,6 @@ inner-requires c = let a = all_wider 16 30000 c.args.p (lit≤ tt) c.requires.al
 pub smallest_multiple-requires : goal.smallest_multiple-requires
 smallest_multiple-requires c =
     rw (told c.inner.result c.inner.type_inv) (rw c.inner.ensures (record {
-      n_le_components = omega arith;
       pos_bound = c.requires.pos_bound;
       s_bound = (
         omega (arith, dot_within 16 16 c.args.p c.args.p (omega arith) (omega arith) c.requires.all_within.0 c.requires.all_within.0),
@@ -28,5 +27,5 @@ smallest_multiple-requires c =
 pub returns : goal.returns
 returns c =
     told c.smallest_multiple.result c.smallest_multiple.type_inv
-    ∙ period_multiplier c.args.p c.args.d 4 c.smallest_multiple.result c.requires.pos_bound (length-four-projection c.args.p c.args.d (omega arith) (omega arith))
+    ∙ period_multiplier c.args.p c.args.d _ c.smallest_multiple.result c.requires.pos_bound refl
     (rw (told c.inner.result c.inner.type_inv, c.inner.ensures, c.project.ensures) at c.smallest_multiple.ensures)

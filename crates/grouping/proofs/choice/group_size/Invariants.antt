@@ -1,13 +1,9 @@
--- `group_size` meets its contract. Assumes nothing.
+-- The loop of `group_size`: the greatest multiplier of the vectors that were passed. Assumes nothing.
 use mathlib.Core.Path.{◌≡◌}
-use Prim.Native.Nat.{◌≤◌, ◌-◌}
 use lib.IntN.{pos}
+use lib.ListN.{take}
 use Rattle.grouping.specs.Projection.{group_size}
-use Rattle.numbering.specs.Tables.{rows}
 use Rattle.grouping.proofs.choice.group_size.Given as goal
 
-abbrev pub invariant-loop-i : goal.invariant-loop-i
-invariant-loop-i l = (l.i ≤ l.m) × (l.r ≡ pos (group_size l.p (rows l.ds l.i)))
-
-abbrev pub decreases-loop-i : goal.decreases-loop-i
-decreases-loop-i l = l.m - l.i
+abbrev pub invariant-loop-d : goal.invariant-loop-d
+invariant-loop-d l = l.r ≡ pos (group_size l.p (take l.d-index l.ds))

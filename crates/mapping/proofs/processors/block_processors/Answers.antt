@@ -1,33 +1,24 @@
 -- `block_processors` meets its contract. Assumes nothing.
-use mathlib.Core.Path.{◌≡◌, subst}
-use mathlib.Core.List.{List, ◌++◌}
-use Prim.Native.Nat.{ℕ}
-use native.Mathlib.Omega.{arith}
-use lib.ListN.{drop}
+use Rattle.std.proofs.Common.{◌≡◌, ap, ◌∙◌, ◌++◌, drop, length, List, ℕ}
 use Rattle.integers.specs.Lists.{tab}
-use Rattle.mapping.specs.Mapping.{Direction, joined}
-use Rattle.mapping.specs.GroupNumbers.{values_in, no_bits, processors_in}
-use Rattle.mapping.proofs.Ready.{dealt_are, few_bits, all_fit, least_sizes}
+use Rattle.mapping.specs.Mapping.{Direction, joined, dealt, bits_of}
+use Rattle.mapping.specs.GroupNumbers.{values_in, directions_in, processors_in}
+use Rattle.mapping.specs.Held.{held}
+use Rattle.mapping.proofs.Ready.{none-dealt, all_held}
 use Rattle.mapping.proofs.processors.block_processors.Goals as goal
+use Rattle.mapping.proofs.processors.block_processors.Goals.{After-deal-directions}
+
+pub deal-directions-requires : goal.deal-directions-requires
+deal-directions-requires c = (c.requires.1, ap bits_of c.directions_in.ensures ∙ none-dealt c.args.rows.now (length c.args.rows.now) c.args.c c.requires.2 c.requires.0)
+
+are : (c : After-deal-directions) → held c.deal-directions.result ≡ dealt c.args.c (directions_in c.args.rows.now (length c.args.rows.now))
+are c = c.deal-directions.ensures ∙ ap (dealt c.args.c) c.directions_in.ensures
 
 pub fill_processors-requires : goal.fill_processors-requires
-fill_processors-requires c =
-    let a = c.args in
-    let r = c.spans_in-spans.result in
-    let bits = c.deal-bits.result in
-    let dealing = c.deal-bits.ensures r.least in record {
-      count_le_max_iterations = (c.requires.1, c.requires.3, (let f = few_bits r.least r.width bits no_bits a.rows.now a.count a.c c.requires.3 c.requires.0 c.spans_in-spans.ensures dealing in omega (arith, f, c.requires.2)), c.requires.4);
-      by_index = (
-        least_sizes r.least r.width bits no_bits a.rows.now a.count a.c c.requires.3 c.requires.0 c.spans_in-spans.ensures dealing,
-        all_fit r.least r.width bits no_bits a.rows.now a.count a.c c.requires.3 c.requires.0 c.spans_in-spans.ensures dealing,
-      );
-    }
+fill_processors-requires c = (c.requires.3, λ k h. all_held c.args.rows.now (length c.args.rows.now) c.args.c c.requires.2 c.requires.0 (held c.deal-directions.result) (are (goal.at.fill_processors-requires c).After-deal-directions) c.requires.1 k h (c.requires.2.sized k h))
 
 pub returns : goal.returns
 unfolding processors_in
 returns c =
-    let a = c.args in
-    let r = c.spans_in-spans.result in
-    subst (λ (ds : List Direction). c.fill_processors.new.processors ≡ tab (λ (k : ℕ). joined 0 ds (values_in a.rows.now k)) a.count ++ drop a.count a.processors.now)
-    (dealt_are r.least r.width c.deal-bits.result no_bits a.rows.now a.count a.c c.requires.3 c.requires.0 c.spans_in-spans.ensures (c.deal-bits.ensures r.least))
     c.fill_processors.ensures
+    ∙ ap (λ (ds : List Direction). tab (λ (k : ℕ). joined 0 ds (values_in c.args.rows.now k)) (length c.args.rows.now) ++ drop (length c.args.rows.now) c.args.processors.now) (are (goal.at.returns c).After-deal-directions)

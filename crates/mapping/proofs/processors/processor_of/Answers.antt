@@ -1,97 +1,83 @@
 -- `processor_of` meets its contract. Assumes nothing.
-use mathlib.Core.Path.{◌≡◌, sym, ap, ap₂, subst}
-use Prim.Native.Nat.{ℕ, ◌+◌, ◌*◌, ◌^◌, ◌<◌, ◌≤◌}
-use native.Mathlib.Omega.{arith}
-use lib.ListN.{get_or}
+use Rattle.std.proofs.Common.{◌≡◌, sym, ap, ap₂, subst, subst₂, ◌∙◌, ℤ, arith, ℕ, ◌+◌, ◌*◌, ◌^◌, ◌<◌, length, get_or, pos}
+use Rattle.std.proofs.lemmas.List.{length-map}
 use Rattle.nest.specs.Nest.{max_depth, max_cube}
-use Rattle.mapping.proofs.Widths.{fit_at, bit_at, code_at, Joining, joining_start, joining_more, joining_small, joining_end}
+use Rattle.mapping.specs.Mapping.{Direction, direction_at, gray, part_of}
+use Rattle.mapping.specs.GroupNumbers.{column_of}
+use Rattle.mapping.specs.Held.{direction_of, held, HoldsValue}
+use Rattle.integers.proofs.Machine.{reads}
+use Rattle.mapping.proofs.Arrays.{none, held-at}
+use Rattle.mapping.proofs.Deals.{turn_below}
+use Rattle.mapping.proofs.Small.{small}
+use Rattle.mapping.proofs.Widths.{holds_at, code_at, Joining, joining_more, joining_small, joining_end}
 use Rattle.mapping.proofs.processors.processor_of.Goals as goal
-use Rattle.mapping.proofs.processors.processor_of.Goals.{After-code_at, In-loop-j}
+use Rattle.mapping.proofs.processors.processor_of.Goals.{Start, After-column_of, After-code_of, In-loop-j}
 
--- direction j is one of them
-below : (c : In-loop-j) → c.loop-j.j < max_depth
-below c = c.loop-j-test.true
+-- there are as many directions as a nest has loops at most
+long : (d : Start) → length (held d.args.directions.now) ≡ max_depth
+long d = length-map d.args.directions.now direction_of ∙ d.told-directions
 
-few : (c : In-loop-j) → get_or c.args.bits c.loop-j.j 0 ≤ max_cube
-few c =
-    let d = c in
-    let b = bit_at d.args.least d.args.width d.args.bits d.args.rows.now d.args.k c.loop-j.j (below c) in
-    omega (arith, b, d.requires.k_lt_max_iterations.2)
+-- direction j, and the value that it holds
+here : (c : In-loop-j) → direction_at (held c.args.directions.now) c.loop-j.j ≡ direction_of (get_or c.args.directions.now c.loop-j.j none)
+here c = held-at c.args.directions.now c.loop-j.j (omega (arith, c.told-directions, c.loop-j-test.true))
 
--- the code of its value
-abbrev code : In-loop-j → ℕ
-code c = let a = c.args in code_at a.least a.width a.bits a.rows.now a.k c.loop-j.j
+holds : (c : In-loop-j) → HoldsValue (direction_at (held c.args.directions.now) c.loop-j.j) (get_or c.args.row.now (column_of c.loop-j.j) (pos 0))
+holds c = holds_at (held c.args.directions.now) c.args.row.now (long (goal.at.In-loop-j c).Start) c.requires c.loop-j.j c.loop-j-test.true
 
--- one more code is joined, and all are few
-next : (c : In-loop-j) → Joining c.args.least c.args.width c.args.bits c.args.rows.now c.args.k
-    (c.loop-j.p * 2 ^ get_or c.args.bits c.loop-j.j 0 + code c) (c.loop-j.j + 1)
-next c =
-    let a = c.args in
-    joining_more a.least a.width a.bits a.rows.now a.k c.loop-j.p c.loop-j.j (below c) c.loop-j.invariant
+-- one more code is joined, and all are small
+next : (c : In-loop-j) → Joining (held c.args.directions.now) c.args.row.now (long (goal.at.In-loop-j c).Start) c.requires (c.loop-j.p * 2 ^ (direction_at (held c.args.directions.now) c.loop-j.j).bits + code_at (held c.args.directions.now) c.args.row.now (long (goal.at.In-loop-j c).Start) c.requires c.loop-j.j) (c.loop-j.j + 1)
+next c = joining_more (held c.args.directions.now) c.args.row.now (long (goal.at.In-loop-j c).Start) c.requires c.loop-j.p c.loop-j.j c.loop-j-test.true c.loop-j.invariant
 
-next_small : (c : In-loop-j) → c.loop-j.p * 2 ^ get_or c.args.bits c.loop-j.j 0 + code c < 2 ^ max_cube
-next_small c =
-    let d = c in
-    let a = d.args in
-    joining_small a.least a.width a.bits a.rows.now a.k max_cube (c.loop-j.p * 2 ^ get_or a.bits c.loop-j.j 0 + code c) (c.loop-j.j + 1) d.requires.by_index.1 d.requires.k_lt_max_iterations.2 (next c)
+next_small : (c : In-loop-j) → c.loop-j.p * 2 ^ (direction_at (held c.args.directions.now) c.loop-j.j).bits + code_at (held c.args.directions.now) c.args.row.now (long (goal.at.In-loop-j c).Start) c.requires c.loop-j.j < 2 ^ max_cube
+next_small c = joining_small (held c.args.directions.now) c.args.row.now (long (goal.at.In-loop-j c).Start) c.requires _ (c.loop-j.j + 1) (next c)
 
--- what is made of it
-made : (c : After-code_at) → c.loop-j.p * c.power.result + c.code_at.result
-    ≡ c.loop-j.p * 2 ^ get_or c.args.bits c.loop-j.j 0 + code (goal.at.After-code_at c).In-loop-j
-made c = ap₂ (λ x y. c.loop-j.p * x + y) c.power.ensures c.code_at.ensures
+-- the bits and the code, as the machine has them
+bits : (c : In-loop-j) → (direction_at (held c.args.directions.now) c.loop-j.j).bits ≡ (get_or c.args.directions.now c.loop-j.j none).bits
+bits c = ap (λ (d : Direction). d.bits) (here c)
 
-pub loop-j-init : goal.loop-j-init
-loop-j-init c = let a = c.args in joining_start a.least a.width a.bits a.rows.now a.k
+value : (c : After-column_of) → get_or c.args.row.now c.column_of.result (pos 0) ≡ get_or c.args.row.now (column_of c.loop-j.j) (pos 0)
+value c = ap (λ i. get_or c.args.row.now i (pos 0)) c.column_of.ensures
 
-pub offset_bounds-bits-j : goal.offset_bounds-bits-j
-offset_bounds-bits-j c = let h : c.loop-j.j < max_depth = c.loop-j-test.true in omega (arith, h)
-
-pub bounds-bits-j : goal.bounds-bits-j
-bounds-bits-j c = c.loop-j-test.true
+made : (c : After-code_of) → c.loop-j.p * c.power.result + c.code_of.result ≡ c.loop-j.p * 2 ^ (direction_at (held c.args.directions.now) c.loop-j.j).bits + code_at (held c.args.directions.now) c.args.row.now (long (goal.at.After-code_of c).Start) c.requires c.loop-j.j
+made c =
+    let d = (goal.at.After-code_of c).In-loop-j in
+    let v = value (goal.at.After-code_of c).After-column_of in
+    ap₂ (λ x y. c.loop-j.p * x + y) (c.power.ensures ∙ ap (λ e. 2 ^ e) (sym (bits d)))
+    (c.code_of.ensures ∙ ap₂ (λ (e : Direction) (x : ℤ). gray (part_of e x)) (sym (here d)) (ap reads v ∙ small (get_or c.args.row.now (column_of c.loop-j.j) (pos 0)) (holds d).value_small))
 
 pub power-requires : goal.power-requires
-power-requires c = omega (arith, few c)
+power-requires c = let d = (goal.at.power-requires c).In-loop-j in omega (arith, bits d, (holds d).few_bits)
 
 pub overflow_mul-p : goal.overflow_mul-p
 overflow_mul-p c =
-    let l = c.loop-j in
-    let e = ap (λ x. l.p * x) c.power.ensures in
-    omega (arith, e, next_small (goal.at.overflow_mul-p c).In-loop-j)
+    let d = (goal.at.overflow_mul-p c).In-loop-j in
+    let e = ap (λ x. c.loop-j.p * x) (c.power.ensures ∙ ap (λ e. 2 ^ e) (sym (bits d))) in
+    omega (arith, e, next_small d)
 
-pub code_at-requires : goal.code_at-requires
-code_at-requires c =
-    let at_in = (goal.at.code_at-requires c).In-loop-j in
-    let a = c.args in
-    let j = c.loop-j.j in
-    let b = below at_in in
-    record {
-      k_lt_max_iterations = (c.requires.k_lt_max_iterations.0, b, c.requires.k_lt_max_iterations.1, few at_in);
-      pos_bound = (c.requires.by_index.0 j b, fit_at a.least a.width a.bits a.rows.now a.k c.requires.by_index.1 j b);
-    }
+pub offset_bounds-row-column_of : goal.offset_bounds-row-column_of
+offset_bounds-row-column_of c = unfold column_of in omega (arith, turn_below max_depth c.loop-j.j c.loop-j-test.true, c.column_of.ensures)
+
+pub bounds-row-column_of : goal.bounds-row-column_of
+bounds-row-column_of c = unfold column_of in omega (arith, turn_below max_depth c.loop-j.j c.loop-j-test.true, c.column_of.ensures)
+
+pub code_of-requires : goal.code_of-requires
+code_of-requires c =
+    let d = (goal.at.code_of-requires c).In-loop-j in
+    let v = ap reads (value (goal.at.code_of-requires c).After-column_of) ∙ small (get_or c.args.row.now (column_of c.loop-j.j) (pos 0)) (holds d).value_small in
+    subst₂ HoldsValue (here d) (sym v) (holds d)
 
 pub overflow_add-p : goal.overflow_add-p
 overflow_add-p c = let e = made c in omega (arith, e, next_small (goal.at.overflow_add-p c).In-loop-j)
 
-pub overflow_step-j : goal.overflow_step-j
-overflow_step-j c = omega (arith, below (goal.at.overflow_step-j c).In-loop-j)
-
-pub loop-j-smaller : goal.loop-j-smaller
-loop-j-smaller c = omega (arith, below (goal.at.loop-j-smaller c).In-loop-j)
-
 pub loop-j-preserved : goal.loop-j-preserved
 loop-j-preserved c =
-    let a = c.args in
-    subst (λ (p : ℕ). Joining a.least a.width a.bits a.rows.now a.k p (c.loop-j.j + 1)) (sym (made c)) (next (goal.at.loop-j-preserved c).In-loop-j)
+    let d = (goal.at.loop-j-preserved c).In-loop-j in
+    subst (λ (p : ℕ). Joining (held c.args.directions.now) c.args.row.now (long (goal.at.loop-j-preserved c).Start) c.requires p (c.loop-j.j + 1)) (sym (made c)) (next d)
 
 pub overflow_cast-result : goal.overflow_cast-result
 overflow_cast-result c =
-    let a = c.args in
-    let l = c.loop-j in
-    let s = joining_small a.least a.width a.bits a.rows.now a.k max_cube l.p l.j c.requires.by_index.1 c.requires.k_lt_max_iterations.2 l.invariant in
+    let s = joining_small (held c.args.directions.now) c.args.row.now (long (goal.at.overflow_cast-result c).Start) c.requires c.loop-j.p c.loop-j.j c.loop-j.invariant in
     omega (arith, s)
 
 pub returns : goal.returns
-returns c =
-    let a = c.args in
-    let l = c.loop-j in
-    joining_end a.least a.width a.bits a.rows.now a.k l.p l.j (omega (arith, c.loop-j-test.false)) l.invariant
+returns c = joining_end (held c.args.directions.now) c.args.row.now (long (goal.at.returns c).Start) c.requires c.loop-j.p c.loop-j.j c.loop-j-test.false c.loop-j.invariant

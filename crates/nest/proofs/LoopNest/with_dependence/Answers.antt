@@ -29,15 +29,6 @@ component-none xs i k z (inr q) = split (ltb i max_dependences) (λ t. rw (with_
 k-low : (c : Then-k-lt-MAX_DEPTH) → c.args.k < max_depth
 k-low c = ltb-true c.args.k max_depth c.if-k-lt-MAX_DEPTH.true-raw
 
-pub overflow_add-component : goal.overflow_add-component
-overflow_add-component c = omega (arith, k-low c)
-
-pub offset_bounds-s-i : goal.offset_bounds-s-i
-offset_bounds-s-i c = omega (arith, k-low c)
-
-pub bounds-s-i : goal.bounds-s-i
-bounds-s-i c = omega (arith, k-low c)
-
 pub returns-then-k-lt-MAX_DEPTH : goal.returns-then-k-lt-MAX_DEPTH
 returns-then-k-lt-MAX_DEPTH c =
     let a = c.args in

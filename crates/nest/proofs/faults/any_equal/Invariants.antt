@@ -1,14 +1,13 @@
--- `any_equal` meets its contract. The loop's invariant: no two of the j dependences passed are equal. Assumes nothing.
+-- `any_equal` meets its contract. The loop's invariant: two of the rows are equal if two of the rest are. Assumes nothing.
 use mathlib.Core.Path.{◌≡◌}
-use mathlib.Core.Bool.{false}
-use Prim.Native.Nat.{◌≤◌, ◌-◌}
-use Rattle.integers.specs.Lists.{repeats, tab}
+use mathlib.Core.List.{map}
+use lib.ListN.{length, take}
+use Rattle.integers.specs.Lists.{repeats}
 use Rattle.integers.specs.Vector.{eq_v}
-use Rattle.nest.specs.Nest.{dependence_at}
 use Rattle.nest.proofs.faults.any_equal.Given as goal
 
-abbrev pub invariant-loop-j : goal.invariant-loop-j
-invariant-loop-j l = (l.j ≤ l.m) × (repeats eq_v (tab (dependence_at l.dependences l.n) l.j) ≡ false)
+abbrev pub invariant-loop-first : goal.invariant-loop-first
+invariant-loop-first l = repeats eq_v (map (take l.n) l.rows) ≡ repeats eq_v (map (take l.n) l.rest)
 
-abbrev pub decreases-loop-j : goal.decreases-loop-j
-decreases-loop-j l = l.m - l.j
+abbrev pub decreases-loop-first : goal.decreases-loop-first
+decreases-loop-first l = length l.rest

@@ -1,11 +1,8 @@
--- `is_backward` meets its contract. The loop's invariant: the k components passed are zero. Assumes nothing.
-use Prim.Native.Nat.{◌*◌, ◌≤◌, ◌-◌}
-use Rattle.nest.specs.Nest.{max_depth}
-use Rattle.nest.proofs.Vectors.{ZeroTo}
+-- `is_backward` meets its contract. The loop's invariant: the components passed are zero, so that those behind them decide. Assumes nothing.
+use mathlib.Core.Path.{◌≡◌}
+use lib.ListN.{drop}
+use Rattle.nest.specs.Refusals.{backward}
 use Rattle.nest.proofs.faults.is_backward.Given as goal
 
-abbrev pub invariant-loop-k : goal.invariant-loop-k
-invariant-loop-k l = (l.k ≤ l.n) × ZeroTo l.dependences (l.i * max_depth) l.k
-
-abbrev pub decreases-loop-k : goal.decreases-loop-k
-decreases-loop-k l = l.n - l.k
+abbrev pub invariant-loop-component : goal.invariant-loop-component
+invariant-loop-component l = backward l.dependence ≡ backward (drop l.component-index l.dependence)

@@ -1,36 +1,13 @@
--- `distance` meets its contract: the difference is small and not negative. Assumes nothing.
-use mathlib.Core.Path.{◌∙◌, ap}
-use mathlib.Core.List.{List, [], ◌∷◌}
-use Prim.Native.Nat.{ℕ}
-use lib.IntN.{ℤ, nat_abs, ◌-ℤ◌}
+-- `distance` meets its contract. Assumes nothing.
+use mathlib.Core.Path.{◌∙◌, ap, ap₂}
+use lib.IntN.{nat_abs, ◌-ℤ◌}
 use mir.Facts.{to_z-of_z}
-use Rattle.integers.proofs.Division.{need_cast}
 use Rattle.integers.proofs.Linear.{ints, dif}
-use Rattle.integers.proofs.Machine.{reads, Within, fits, read}
-use Rattle.integers.proofs.Solver.{var, ◌⊖◌}
-use Rattle.nest.specs.Nest.{max_limit}
 use Rattle.nest.proofs.Counted.{size_is}
 use Rattle.nest.proofs.points.distance.Goals as goal
-use Rattle.nest.proofs.points.distance.Goals.{Start}
-
-abbrev ρ : Start → List ℤ
-ρ c = c.args.index ∷ c.args.lower ∷ []
-
-abbrev β : List ℕ
-β = max_limit ∷ max_limit ∷ []
-
-h : (c : Start) → Within (ρ c) β
-h c = (c.requires.1, (c.requires.0, tt))
-
-pub overflow_sub-result : goal.overflow_sub-result
-overflow_sub-result c = fits (ρ c) β (var 0 ⊖ var 1) (h c) tt
-
-pub overflow_cast-result : goal.overflow_cast-result
-overflow_cast-result c =
-    let order = c.requires.2 in
-    need_cast (overflow_sub-result c) (omega (ints, dif (reads c.args.index) (reads c.args.lower), to_z-of_z c.ranges.lower, to_z-of_z c.ranges.index))
 
 pub returns : goal.returns
 returns c =
     let order = c.requires.2 in
-    ap nat_abs (read (ρ c) β (var 0 ⊖ var 1) (h c) tt) ∙ size_is (c.args.index -ℤ c.args.lower) (omega (ints, dif c.args.index c.args.lower))
+    c.abs_diff.ensures ∙ ap nat_abs (ap₂ (λ x y. x -ℤ y) (to_z-of_z c.ranges.index) (to_z-of_z c.ranges.lower))
+    ∙ size_is (c.args.index -ℤ c.args.lower) (omega (ints, dif c.args.index c.args.lower))

@@ -1,64 +1,77 @@
 -- `point_count` meets its contract. Assumes nothing.
-use mathlib.Core.Path.{◌≡◌, refl, sym, ◌∙◌, ap}
+use mathlib.Core.Path.{◌≡◌, refl, sym, ◌∙◌, ap, ap₂}
 use mathlib.Core.Bool.{false}
-use Prim.Native.Nat.{◌*◌, ◌^◌, ◌≤◌, ◌-◌}
+use mathlib.Core.List.{[], ◌∷◌, ◌++◌}
+use Prim.Native.Nat.{ℕ, ◌+◌, ◌*◌, ◌^◌, ◌≤◌, ◌-◌}
 use native.Mathlib.Nat.{mul-le-mul}
 use native.Mathlib.Omega.{arith}
 use lib.IntN.{pos}
-use lib.ListN.{get_or}
+use lib.ListN.{length, get_or, length-append}
 use borrow.Author.Rules.{rules}
-use Rattle.integers.proofs.Bounds.{told}
 use Rattle.integers.specs.Lists.{tab}
 use Rattle.integers.proofs.Lists.{any-tab-each}
-use Rattle.nest.specs.Nest.{Limit, limit_at, max_depth}
+use Rattle.nest.specs.Nest.{limit_at, max_depth}
 use Rattle.nest.specs.Points.{extent, point_count}
 use Rattle.nest.specs.Refusals.{crossed}
+use Rattle.nest.proofs.Conditions.{limit_of, read-limits}
 use Rattle.nest.proofs.Counted.{max_extent, extent-within, count_low, point_count-more}
+use Rattle.nest.proofs.Zipped.{Next, next}
 use Rattle.nest.proofs.points.point_count.Goals as goal
-use Rattle.nest.proofs.points.point_count.Goals.{After-extent_of-arg-in-loop-k-1, After-extent_of-total}
+use Rattle.nest.proofs.points.point_count.Goals.{In-Some, After-extent_of-total}
 
-pub loop-k-init : goal.loop-k-init
-unfolding point_count tab
-loop-k-init c = (search rules, refl)
+-- the turn, and the limits that it takes
+abbrev k : In-Some → ℕ
+k c = length c.loop-low.yielded
 
--- loop k, whose limits are not crossed
-abbrev at_k : After-extent_of-arg-in-loop-k-1 → Limit
-at_k c = limit_at c.args.lower.now c.args.upper.now c.loop-k.k
+low : (c : In-Some) → Next c.args.lower.now (k c) c.in-Some.low.now c.next.new.self.a.rest.now
+low c = next c.args.lower.now (k c) c.in-Some.low.now c.next.new.self.a.rest.now c.loop-low.low-iterator.a.rest.now c.loop-low.invariant.lower c.in-Some.ensures.steps.0
 
-loop-fine : (c : After-extent_of-arg-in-loop-k-1) → crossed (at_k c) ≡ false
-loop-fine c =
-    let s = c in
-    any-tab-each crossed (limit_at s.args.lower.now s.args.upper.now) s.args.n c.loop-k.k s.requires.3 (search rules)
+high : (c : In-Some) → Next c.args.upper.now (k c) c.in-Some.high.now c.next.new.self.b.rest.now
+high c = next c.args.upper.now (k c) c.in-Some.high.now c.next.new.self.b.rest.now c.loop-low.low-iterator.b.rest.now c.loop-low.invariant.upper c.in-Some.ensures.steps.1
+
+-- they are those of a loop that is not crossed
+loop-fine : (c : In-Some) → crossed (limit_at c.args.lower.now c.args.upper.now (k c)) ≡ false
+loop-fine c = any-tab-each crossed (limit_at c.args.lower.now c.args.upper.now) (length c.args.lower.now) (k c) c.requires.2 (low c).below
+
+taken : (c : In-Some) → limit_at c.args.lower.now c.args.upper.now (k c) ≡ limit_of c.in-Some.low.now c.in-Some.high.now
+taken c = ap₂ limit_of ((low c).here (pos 0)) ((high c).here (pos 0))
+
+fine : (c : In-Some) → crossed (limit_of c.in-Some.low.now c.in-Some.high.now) ≡ false
+fine c = sym (ap crossed (taken c)) ∙ loop-fine c
 
 -- its extent is what the call gives
-gives : (c : After-extent_of-total) → c.extent_of-total.result ≡ extent (at_k c.before)
+gives : (c : After-extent_of-total) → c.extent_of-total.result ≡ extent (limit_at c.args.lower.now c.args.upper.now (length c.loop-low.yielded))
 gives c =
-    let s = c in
-    let k = c.loop-k.k in
-    rw (told (get_or s.args.lower.now k (pos 0)) c.extent_of-arg-1.given, told (get_or s.args.upper.now k (pos 0)) c.extent_of-arg-in-loop-k-1.given)
-    at c.extent_of-total.ensures
+    let t = c.before.before.before in
+    c.extent_of-total.ensures ∙ ap extent (read-limits c.in-Some.low.now c.in-Some.high.now (fine t) ∙ sym (taken t))
 
 pub extent_of-total-requires : goal.extent_of-total-requires
-extent_of-total-requires c =
-    let s = c in
-    let k = c.loop-k.k in
-    rw (told (get_or s.args.lower.now k (pos 0)) c.extent_of-arg-1.given, told (get_or s.args.upper.now k (pos 0)) c.extent_of-arg-in-loop-k-1.given) (loop-fine c)
+extent_of-total-requires c = ap crossed (read-limits c.in-Some.low.now c.in-Some.high.now (fine c.before.before)) ∙ fine c.before.before
 
 pub overflow_mul-total : goal.overflow_mul-total
 overflow_mul-total c =
-    let s = c in
-    let l = c.loop-k in
-    let h : l.total ≤ max_extent ^ (max_depth - 1) = rw l.invariant.1 (count_low s.args.lower.now s.args.upper.now s.args.n l.k s.requires.3 (search rules) s.requires.0) in
-    let g : c.extent_of-total.result ≤ max_extent = rw (gives c) (extent-within (get_or s.args.lower.now l.k (pos 0)) (get_or s.args.upper.now l.k (pos 0)) (loop-fine c.before)) in
+    let a = c.args in
+    let l = c.loop-low in
+    let t = c.before.before.before in
+    let n = length a.lower.now in
+    let h : l.total ≤ max_extent ^ (max_depth - 1) = rw l.invariant.total (count_low a.lower.now a.upper.now n (k t) c.requires.2 (low t).below c.requires.0) in
+    let g : c.extent_of-total.result ≤ max_extent = rw (gives c) (extent-within (get_or a.lower.now (k t) (pos 0)) (get_or a.upper.now (k t) (pos 0)) (loop-fine t)) in
     omega (arith, mul-le-mul h g)
 
-pub loop-k-preserved : goal.loop-k-preserved
-loop-k-preserved c =
-    let s = c in
-    let l = c.loop-k in
-    (search rules, ap (λ t. t * c.extent_of-total.result) l.invariant.1 ∙ ap (λ t. point_count (tab (limit_at s.args.lower.now s.args.upper.now) l.k) * t) (gives c) ∙ sym (point_count-more (limit_at s.args.lower.now s.args.upper.now) l.k))
+pub loop-low-preserved : goal.loop-low-preserved
+loop-low-preserved c =
+    let a = c.args in
+    let l = c.loop-low in
+    let t = c.before.before.before in
+    let f = limit_at a.lower.now a.upper.now in
+    let more : length (l.yielded ++ ((c.in-Some.low, c.in-Some.high) ∷ [])) ≡ k t + 1 = length-append l.yielded ((c.in-Some.low, c.in-Some.high) ∷ []) in
+    rw more record {
+      passed = let b = (low t).below in omega arith;
+      lower = (low t).behind;
+      upper = (high t).behind;
+      total = ap₂ (λ m n. m * n) l.invariant.total (gives c) ∙ sym (point_count-more f (k t));
+    }
 
-pub returns : goal.returns
-returns c =
-    let e : c.loop-k.k ≡ c.args.n = omega arith in
-    rw e at c.loop-k.invariant.1
+pub loop-low-init : goal.loop-low-init
+unfolding point_count tab
+loop-low-init c = record { passed = omega arith; lower = search rules; upper = search rules; total = refl }

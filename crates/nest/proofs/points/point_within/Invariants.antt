@@ -2,16 +2,12 @@
 -- Assumes nothing.
 use mathlib.Core.List.{[]}
 use Prim.Native.Nat.{◌≤◌}
-use lib.ListN.{get_or}
-use Rattle.integers.specs.Lists.{tab}
-use Rattle.nest.specs.Nest.{limit_at}
+use lib.ListN.{length, get_or}
+use Rattle.nest.specs.Nest.{limit_at, limits_in}
 use Rattle.nest.specs.Points.{points}
 use Rattle.nest.proofs.Ranks.{Unranked}
 use Rattle.nest.proofs.points.point_within.Given as goal
 
 abbrev pub invariant-loop-k : goal.invariant-loop-k
 invariant-loop-k l =
-    (1 ≤ l.k) × (l.k ≤ l.n) × Unranked (limit_at l.lower l.upper) l.n (get_or (points (tab (limit_at l.lower l.upper) l.n)) l.rank []) l.k l.rest l.point
-
-abbrev pub decreases-loop-k : goal.decreases-loop-k
-decreases-loop-k l = l.k
+    (1 ≤ l.k) × (l.k ≤ length l.lower) × Unranked (limit_at l.lower l.upper) (length l.lower) (get_or (points (limits_in l.lower l.upper)) l.rank []) l.k l.rest l.point

@@ -5,9 +5,13 @@ use mathlib.Core.Path.{◌≡◌, sym, ◌∙◌, ap}
 use mathlib.Core.List.{[], ◌∷◌}
 use lib.Dec.{ltb}
 use borrow.Author.Tests.{lt-ltb, le-ltb}
-use Rattle.nest.specs.Nest.{limits_of, max_iterations, nest_from, to_ℕ}
-use Rattle.nest.specs.Refusals.{bad_limits, too_many_points, number, holds, first_met}
+use Rattle.std.proofs.lemmas.List.{length-take-le}
+use Rattle.integers.specs.Lists.{any, tab}
+use Rattle.nest.specs.Points.{point_count}
+use Rattle.nest.specs.Nest.{limit_at, limits_of, max_iterations, nest_from, to_ℕ}
+use Rattle.nest.specs.Refusals.{crossed, bad_limits, too_many_points, number, holds, first_met}
 use Rattle.nest.proofs.FirstMet.{met, passed}
+use Rattle.nest.proofs.Slices.{crossed-first, limits-first}
 use Rattle.nest.proofs.refusals.check_limits.Goals as goal
 use Rattle.nest.proofs.refusals.check_limits.Goals.{After-any_crossed, After-point_count, Else-any_crossed, Start}
 
@@ -15,14 +19,17 @@ use Rattle.nest.proofs.refusals.check_limits.Goals.{After-any_crossed, After-poi
 abbrev nest : Start → LoopNest
 nest c = nest_from (pos c.args.n) (pos 0) (pos 0) c.args.lower.now c.args.upper.now [] [] [] []
 
--- what each test says
+-- what each test says, of the slices of the limits
+first_crossed : (c : After-any_crossed) → c.any_crossed.result ≡ any crossed (tab (limit_at c.args.lower.now c.args.upper.now) c.args.n)
+first_crossed c = c.any_crossed.ensures ∙ crossed-first c.args.lower.now c.args.upper.now c.args.n c.requires.1 c.requires.2
+
 crossed_test : (c : After-any_crossed) → holds (nest c.before) bad_limits ≡ c.any_crossed.result
 unfolding holds limits_of to_ℕ
-crossed_test c = sym c.any_crossed.ensures
+crossed_test c = sym (first_crossed c)
 
 count_test : (c : After-point_count) → holds (nest c.before.before.before) too_many_points ≡ ltb max_iterations c.point_count.result
 unfolding holds limits_of to_ℕ
-count_test c = ap (ltb max_iterations) (sym c.point_count.ensures)
+count_test c = ap (ltb max_iterations) (sym (c.point_count.ensures ∙ ap point_count (limits-first c.args.lower.now c.args.upper.now c.args.n c.requires.1)))
 
 -- the limits are passed
 limits-passed : (c : Else-any_crossed) → first_met (nest c.before.before) (bad_limits ∷ too_many_points ∷ []) ≡ first_met (nest c.before.before) (too_many_points ∷ [])
@@ -34,8 +41,11 @@ returns-then-any_crossed c = sym (met (nest c.before.before) bad_limits (too_man
 
 pub point_count-requires : goal.point_count-requires
 point_count-requires c =
+    let a = c.args in
     let p = c.requires in
-    (p.0, p.1, p.2, sym c.any_crossed.ensures ∙ c.if-any_crossed.false)
+    let l = length-take-le a.n a.lower.now p.1 in
+    let u = length-take-le a.n a.upper.now p.2 in
+    (rw l p.0, u ∙ sym l, ap (any crossed) (limits-first a.lower.now a.upper.now a.n p.1) ∙ sym (first_crossed c.before) ∙ c.if-any_crossed.false)
 
 pub returns-then-point_count : goal.returns-then-point_count
 unfolding number

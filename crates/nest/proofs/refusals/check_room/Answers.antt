@@ -1,31 +1,27 @@
--- `check_room` meets its contract: the first short table is the answer. Assumes nothing.
-use mathlib.Core.Path.{sym, ◌∙◌}
-use native.Mathlib.Omega.{arith}
-use Rattle.nest.proofs.Entries.{long_enough, too_short, short_here, long-here}
+-- `check_room` meets its contract: the first short buffer is the answer. Assumes nothing.
+use Rattle.std.proofs.lemmas.List.{at_drop_more}
+use mathlib.Core.Path.{◌≡◌, sym, ◌∙◌}
+use Rattle.std.specs.Prelude.{get_or, drop, ◌∷◌, ◌+◌}
+use Rattle.nest.specs.Refusals.{room_refusal}
+use Rattle.nest.proofs.Entries.{short_here, long-here, room-none}
 use Rattle.nest.proofs.refusals.check_room.Goals as goal
+use Rattle.nest.proofs.refusals.check_room.Goals.{In-loop-room}
 
-pub returns-then-first-iterations : goal.returns-then-first-iterations
-returns-then-first-iterations c = let a = c.args in sym (short_here a.iterations a.first _ c.if-first-iterations.true)
+-- the buffers from the turn's on are its own and those behind it
+turn : (c : In-loop-room)
+    → room_refusal c.args.needed (drop c.loop-room.room-index c.args.rooms.now)
+    ≡ room_refusal c.args.needed (get_or c.args.rooms.now c.loop-room.room-index 0 ∷ drop (c.loop-room.room-index + 1) c.args.rooms.now)
+turn c = at_drop_more (room_refusal c.args.needed) c.args.rooms.now c.loop-room.room-index 0 c.loop-room-test.true
 
-pub returns-then-second-iterations : goal.returns-then-second-iterations
-returns-then-second-iterations c =
-    let a = c.args in
-    sym (long-here a.iterations a.first _ (omega (arith, c.if-first-iterations.false)) ∙ short_here a.iterations a.second _ c.if-second-iterations.true)
+pub returns-then-room-needed : goal.returns-then-room-needed
+unfolding room_refusal
+returns-then-room-needed c =
+    sym (c.loop-room.invariant ∙ turn (goal.at.returns-then-room-needed c).In-loop-room ∙ short_here c.args.needed _ _ c.if-room-needed.true)
 
-pub returns-then-third-iterations : goal.returns-then-third-iterations
-returns-then-third-iterations c =
-    let a = c.args in
-    sym (long-here a.iterations a.first _ (omega (arith, c.if-first-iterations.false)) ∙ long-here a.iterations a.second _ (omega (arith, c.if-second-iterations.false))
-    ∙ short_here a.iterations a.third _ c.if-third-iterations.true)
+pub loop-room-preserved : goal.loop-room-preserved
+unfolding room_refusal
+loop-room-preserved c =
+    c.loop-room.invariant ∙ turn (goal.at.loop-room-preserved c).In-loop-room ∙ long-here c.args.needed _ _ c.if-room-needed.false
 
-pub returns-then-fourth-iterations : goal.returns-then-fourth-iterations
-returns-then-fourth-iterations c =
-    let a = c.args in
-    sym (long-here a.iterations a.first _ (omega (arith, c.if-first-iterations.false)) ∙ long-here a.iterations a.second _ (omega (arith, c.if-second-iterations.false))
-    ∙ long-here a.iterations a.third _ (omega (arith, c.if-third-iterations.false)) ∙ too_short a.iterations a.fourth c.if-fourth-iterations.true)
-
-pub returns-else-fourth-iterations : goal.returns-else-fourth-iterations
-returns-else-fourth-iterations c =
-    let a = c.args in
-    sym (long-here a.iterations a.first _ (omega (arith, c.if-first-iterations.false)) ∙ long-here a.iterations a.second _ (omega (arith, c.if-second-iterations.false))
-    ∙ long-here a.iterations a.third _ (omega (arith, c.if-third-iterations.false)) ∙ long_enough a.iterations a.fourth (omega (arith, c.if-fourth-iterations.false)))
+pub returns : goal.returns
+returns c = sym (c.loop-room.invariant ∙ room-none c.args.needed c.args.rooms.now c.loop-room.room-index c.loop-room-test.false)

@@ -6,37 +6,40 @@ use Prim.Native.Nat.{ℕ, suc, ◌+◌, ◌*◌, ◌-◌, ◌/◌, ◌%◌, ◌<
 use native.Mathlib.Nat as NatL
 use native.Mathlib.Omega.{arith}
 use lib.IntN.{ℤ, pos, nat_abs, ◌+ℤ◌, ◌-ℤ◌}
-use lib.ListN.{get_or}
+use lib.ListN.{length, get_or}
 use Rattle.integers.proofs.Bounds.{told, abs-+}
 use Rattle.integers.specs.Lists.{tab}
 use Rattle.integers.proofs.Lists.{any-tab-each}
 use Rattle.integers.proofs.Machine.{reads, Given, fits_g, read_g}
 use Rattle.integers.proofs.Solver.{var, ◌⊖◌}
 use Rattle.integers.specs.Vector.{Vector}
-use Rattle.nest.specs.Nest.{Limit, to_ℕ, limit_at, max_depth, max_limit, max_iterations, max_component}
-use Rattle.nest.specs.Points.{extent, points, point_count, rank}
+use Rattle.nest.specs.Nest.{Limit, to_ℕ, limit_at, max_limit, max_iterations, max_component}
+use Rattle.nest.specs.Points.{extent, points, point_count, place_of}
 use Rattle.nest.specs.Refusals.{outside, crossed}
 use Rattle.nest.proofs.Accepted.{some-index}
-use Rattle.nest.proofs.Conditions.{in_span, uncrossed, index_in_span}
+use Rattle.nest.proofs.Conditions.{read-limits, in_span, uncrossed, index_in_span}
 use Rattle.nest.proofs.Counted.{extent-within}
-use Rattle.nest.proofs.Ranks.{Within, rank_beyond}
-use Rattle.nest.proofs.SourceRanks.{Led, led_start, index-there, led_more, Behind, behind-start, behind_more, behind-below, behind_end, source-listed, point-long}
+use Rattle.nest.proofs.Ranks.{Within, place_beyond}
+use Rattle.nest.proofs.SourceRanks.{Led, led_start, index-there, led_more, Behind, behind-start, behind_more, behind-below, behind_place, source-listed, point-long}
 use Rattle.nest.proofs.source.source_rank.Invariants.{less_at, point_at}
 use Rattle.nest.proofs.source.source_rank.Goals as goal
-use Rattle.nest.proofs.source.source_rank.Goals.{After-distance, After-extent_of-extent, After-index-1, After-is_outside-missing, Else-missing, In-loop-k, Start}
+use Rattle.nest.proofs.source.source_rank.Goals.{After-distance, After-extent_of-extent, After-index-1, After-is_outside, Else-is_outside, In-loop-k, Start}
 
 -- the loops, the point and the source
 abbrev f : Start → ℕ → Limit
 f s = limit_at s.args.lower.now s.args.upper.now
 
 abbrev J : Start → Vector
-J s = point_at s.args.lower.now s.args.upper.now s.args.n s.args.iteration
+J s = point_at s.args.lower.now s.args.upper.now s.args.iteration
 
 abbrev g : Start → ℕ → ℤ
-g s = less_at (J s) s.args.dependences.now (s.args.i * max_depth)
+g s = less_at (J s) s.args.dependence.now
 
-is_one : (s : Start) → s.args.iteration < point_count (tab (f s) s.args.n)
-is_one s = let p = s.requires.n_value in omega (arith, p.1, p.3)
+abbrev n : Start → ℕ
+n s = length s.args.lower.now
+
+is_one : (s : Start) → s.args.iteration < point_count (tab (f s) (n s))
+is_one s = s.requires.limits.2
 
 -- in the loop: the turn is that of loop j, and the state before it
 abbrev In : Type 0
@@ -48,7 +51,7 @@ start c = c.before.before
 abbrev j : In → ℕ
 j c = c.loop-k.k - 1
 
-below : (c : In) → j c < (start c).args.n
+below : (c : In) → j c < n (start c)
 below c = let h = c.loop-k.invariant.0 in let t = c.loop-k-test.true in omega arith
 
 turn : (c : In) → c.loop-k.k ≡ suc (j c)
@@ -57,11 +60,11 @@ turn c = let t = c.loop-k-test.true in omega arith
 led : (c : In) → Led (f (start c)) (J (start c)) (suc (j c)) c.loop-k.rest
 led c = let l = c.loop-k in subst (λ k. Led (f (start c)) (J (start c)) k l.rest) (turn c) l.invariant.1
 
-behind : (c : In) → Behind (f (start c)) (g (start c)) (start c).args.n (suc (j c)) c.loop-k.stride c.loop-k.at
-behind c = let l = c.loop-k in subst (λ k. Behind (f (start c)) (g (start c)) (start c).args.n k l.stride l.at) (turn c) l.invariant.2
+behind : (c : In) → Behind (f (start c)) (g (start c)) (n (start c)) (suc (j c)) c.loop-k.stride c.loop-k.at
+behind c = let l = c.loop-k in subst (λ k. Behind (f (start c)) (g (start c)) (n (start c)) k l.stride l.at) (turn c) l.invariant.2
 
 fine : (c : In) → crossed (f (start c) (j c)) ≡ false
-fine c = let s = start c in any-tab-each crossed (f s) s.args.n (j c) s.requires.n_value.0 (below c)
+fine c = let s = start c in any-tab-each crossed (f s) (n s) (j c) s.requires.limits.0 (below c)
 
 -- where its extent is known
 abbrev Known : Type 0
@@ -74,10 +77,10 @@ abbrev loop_j : Known → Limit
 loop_j c = f (start (in_turn c)) (j (in_turn c))
 
 low-is : (c : Known) → reads (loop_j c).lower ≡ (loop_j c).lower
-low-is c = told (loop_j c).lower c.low-1.given
+low-is c = ap (λ (x : Limit). x.lower) (read-limits (loop_j c).lower (loop_j c).upper (fine (in_turn c)))
 
 high_is : (c : Known) → reads (loop_j c).upper ≡ (loop_j c).upper
-high_is c = told (loop_j c).upper c.high-1.given
+high_is c = ap (λ (x : Limit). x.upper) (read-limits (loop_j c).lower (loop_j c).upper (fine (in_turn c)))
 
 gives : (c : Known) → c.extent_of-extent.result ≡ extent (loop_j c)
 gives c = rw (low-is c, high_is c) at c.extent_of-extent.ensures
@@ -121,7 +124,7 @@ index-size c =
 
 -- what the machine reads, the numbers, and their bounds
 abbrev component : At → ℤ
-component c = let a = (start (turn_at c)).args in get_or a.dependences.now (a.i * max_depth + j (turn_at c)) (pos 0)
+component c = let a = (start (turn_at c)).args in get_or a.dependence.now (j (turn_at c)) (pos 0)
 
 abbrev μ : At → List ℤ
 μ c = reads c.index_at.result ∷ reads (component c) ∷ []
@@ -135,22 +138,22 @@ abbrev β : List ℕ
 given : (c : At) → Given (μ c) (ρ c) β
 given c = (
   (told c.index_at.result c.index_at.type_inv ∙ index_is c, index-size c),
-  ((told (component c) c.index-1.given, (start (turn_at c)).requires.by_index (j (turn_at c)) (below (turn_at c))), tt),
+  ((told (component c) c.index-1.given, (start (turn_at c)).requires.by_index (j (turn_at c)) (rw (start (turn_at c)).requires.lengths.2 (below (turn_at c)))), tt),
 )
 
 less-is : (c : At) → reads (reads c.index_at.result -ℤ reads (component c)) ≡ g (start (turn_at c)) (j (turn_at c))
 less-is c = read_g (μ c) (ρ c) β (var 0 ⊖ var 1) (given c) tt
 
 -- what the test says
-test : (c : After-is_outside-missing) → c.is_outside-missing.result ≡ outside (loop_j (known c.before)).lower (loop_j (known c.before)).upper (g (start (turn_at c.before)) (j (turn_at c.before)))
-test c = rw (low-is (known c.before), high_is (known c.before), less-is c.before) at c.is_outside-missing.ensures
+test : (c : After-is_outside) → c.is_outside.result ≡ outside (loop_j (known c.before)).lower (loop_j (known c.before)).upper (g (start (turn_at c.before)) (j (turn_at c.before)))
+test c = rw (low-is (known c.before), high_is (known c.before), less-is c.before) at c.is_outside.ensures
 
 -- where it fails the index is within the limits
-within : (c : Else-missing) → Within (loop_j (known c.before.before)) (g (start (turn_at c.before.before)) (j (turn_at c.before.before)))
+within : (c : Else-is_outside) → Within (loop_j (known c.before.before)) (g (start (turn_at c.before.before)) (j (turn_at c.before.before)))
 within c =
     let a = c in
     let l = loop_j (known a.before.before) in
-    in_span l.lower l.upper (g (start (turn_at a.before.before)) (j (turn_at a.before.before))) (sym (test c.before) ∙ c.if-missing.false)
+    in_span l.lower l.upper (g (start (turn_at a.before.before)) (j (turn_at a.before.before))) (sym (test c.before) ∙ c.if-is_outside.false)
 
 -- where its distance is known: the state behind the turn
 abbrev Far : Type 0
@@ -166,14 +169,14 @@ far-is : (c : Far) → c.distance.result ≡ D c
 far-is c = rw (low-is (known (at_of c)), less-is (at_of c)) at c.distance.ensures
 
 next_behind : (c : Far) → let d = turn_at (at_of c) in let l = d.loop-k in
-    Behind (f (start d)) (g (start d)) (start d).args.n (j d) (l.stride * (known (at_of c)).extent_of-extent.result) (l.at + c.distance.result * l.stride)
+    Behind (f (start d)) (g (start d)) (n (start d)) (j d) (l.stride * (known (at_of c)).extent_of-extent.result) (l.at + c.distance.result * l.stride)
 next_behind c =
     let d = turn_at (at_of c) in
     let s = start d in
     let l = d.loop-k in
-    subst (λ m. Behind (f s) (g s) s.args.n (j d) (l.stride * m) (l.at + c.distance.result * l.stride)) (sym (gives (known (at_of c))))
-    (subst (λ m. Behind (f s) (g s) s.args.n (j d) (l.stride * extent (f s (j d))) (l.at + m * l.stride)) (sym (far-is c))
-    (behind_more (f s) (g s) s.args.n (j d) l.stride l.at (below d) (behind d) (within c.before)))
+    subst (λ m. Behind (f s) (g s) (n s) (j d) (l.stride * m) (l.at + c.distance.result * l.stride)) (sym (gives (known (at_of c))))
+    (subst (λ m. Behind (f s) (g s) (n s) (j d) (l.stride * extent (f s (j d))) (l.at + m * l.stride)) (sym (far-is c))
+    (behind_more (f s) (g s) (n s) (j d) l.stride l.at (below d) (behind d) (within c.before)))
 
 next_led : (c : Far) → let d = turn_at (at_of c) in Led (f (start d)) (J (start d)) (j d) (d.loop-k.rest / (known (at_of c)).extent_of-extent.result)
 next_led c =
@@ -190,18 +193,12 @@ next_small c =
     let l = d.loop-k in
     let h = (next_led c).below in
     let b =
-    behind-below (f s) (g s) s.args.n (j d) (l.stride * (known (at_of c)).extent_of-extent.result) (l.at + c.distance.result * l.stride) (next_behind c) (omega (arith, h)) in
-    let p = s.requires.n_value in
-    (b.0, omega (arith, b.1, p.1, p.2))
+    behind-below (f s) (g s) (n s) (j d) (l.stride * (known (at_of c)).extent_of-extent.result) (l.at + c.distance.result * l.stride) (next_behind c) (omega (arith, h)) in
+    let p = s.requires.limits in
+    (b.0, omega (arith, b.1, p.1))
 
 pub loop-k-init : goal.loop-k-init
-loop-k-init c = (NatL.le_refl c.args.n, led_start (f c) c.args.n c.args.iteration (is_one c), behind-start (f c) (g c) c.args.n)
-
-pub bounds-lower-k : goal.bounds-lower-k
-bounds-lower-k c = let p = (start c).requires.n_le_max_depth in omega (arith, below c, p.1)
-
-pub bounds-upper-k : goal.bounds-upper-k
-bounds-upper-k c = let p = (start c.before).requires.n_le_max_depth in omega (arith, below c.before, p.2)
+loop-k-init c = (NatL.le_refl (n c), led_start (f c) (n c) c.args.iteration (is_one c), behind-start (f c) (g c) (n c))
 
 pub extent_of-extent-requires : goal.extent_of-extent-requires
 extent_of-extent-requires c =
@@ -217,19 +214,16 @@ index_at-requires c =
     let l = loop_j c in
     (rw (low-is c) (uncrossed l.lower l.upper (fine (in_turn c))).lower_size, place-below c)
 
-pub bounds-dependences-i : goal.bounds-dependences-i
-bounds-dependences-i c = let d = in_turn c.before in let p = (start d).requires.n_le_max_depth in omega (arith, below d, p.3)
-
 pub overflow_sub-index : goal.overflow_sub-index
 overflow_sub-index c = fits_g (μ c) (ρ c) β (var 0 ⊖ var 1) (given c) tt
 
-pub returns-then-missing : goal.returns-then-missing
-returns-then-missing c =
+pub returns-then-is_outside : goal.returns-then-is_outside
+returns-then-is_outside c =
     let d = turn_at c.before.before in
     let s = start d in
     let a = s.args in
-    s.requires.n_value.1 ∙ sym (rank_beyond (f s) (g s) a.n (j d) (below d) (sym (test c.before) ∙ c.if-missing.true))
-    ∙ ap (rank (points (tab (f s) a.n))) (source-listed a.dependences.now (a.i * max_depth) a.n (J s) (point-long (f s) a.n a.iteration (is_one s)))
+    sym (place_beyond (f s) (g s) (n s) (j d) (below d) (sym (test c.before) ∙ c.if-is_outside.true))
+    ∙ ap (place_of (points (tab (f s) (n s)))) (source-listed a.dependence.now (n s) (J s) (point-long (f s) (n s) a.iteration (is_one s)) s.requires.lengths.2)
 
 pub distance-requires : goal.distance-requires
 distance-requires c =
@@ -252,17 +246,13 @@ overflow_mul-stride c = let s = next_small c in omega (arith, s.1)
 pub nonzero_div-rest : goal.nonzero_div-rest
 nonzero_div-rest c = some (known (at_of c))
 
-pub loop-k-smaller : goal.loop-k-smaller
-loop-k-smaller c = let t = (turn_at (at_of c)).loop-k-test.true in omega arith
-
 pub loop-k-preserved : goal.loop-k-preserved
 loop-k-preserved c = let h = below (turn_at (at_of c)) in (omega arith, next_led c, next_behind c)
 
 pub returns : goal.returns
 returns c =
-    let s = c in
-    let a = s.args in
+    let s : Start = c.before.before in
     let l = c.loop-k in
     let e : l.k ≡ 0 = let t = c.loop-k-test.false in omega arith in
-    behind_end (f s.before.before) a.dependences.now (a.i * max_depth) a.n (J s.before.before) l.stride l.at (point-long (f s.before.before) a.n a.iteration (is_one s.before.before))
-    (subst (λ k. Behind (f s.before.before) (g s.before.before) a.n k l.stride l.at) e l.invariant.2)
+    behind_place (f s) s.args.dependence.now (n s) (J s) l.stride l.at (point-long (f s) (n s) s.args.iteration (is_one s)) s.requires.lengths.2
+    (subst (λ k. Behind (f s) (g s) (n s) k l.stride l.at) e l.invariant.2)

@@ -1,25 +1,17 @@
--- `blanks` meets its contract. Assumes nothing.
-use mathlib.Core.Path.{◌≡◌}
-use native.Mathlib.Omega.{arith}
-use lib.ListN.{length, drop}
-use Rattle.nest_text.specs.Fields.{blanks_of}
-use Rattle.nest_text.proofs.FieldLaws.{blanks_stop, blanks-more, blanks_end}
+-- `blanks` counts the spaces that come first.
+use Rattle.std.proofs.Common.{rules, ◌∙◌, sym, arith}
+use Rattle.std.proofs.lemmas.Iterator.{YieldsList-from_slice}
+use Rattle.std.proofs.lemmas.Iterator.Consumers.{count_from_yields_List}
+use Rattle.std.proofs.lemmas.Iterator.Search.{YieldsList-from_take_while}
+use borrow.Author.Tests.{tests}
+use lib.Dec.{eqb}
+use Rattle.nest_text.specs.Fields.{space}
+use Rattle.nest_text.proofs.FieldLaws.{blanks-taken, blanks_inside}
 use Rattle.nest_text.proofs.fields.blanks.Goals as goal
-
-pub returns-then-f-at-ne-SPACE : goal.returns-then-f-at-ne-SPACE
-returns-then-f-at-ne-SPACE c =
-    let i = c in
-    omega (arith, blanks_stop i.args.f.now i.loop-at.at i.loop-at-test.true c.if-f-at-ne-SPACE.true)
-
-pub loop-at-preserved : goal.loop-at-preserved
-loop-at-preserved c =
-    let i = c in
-    omega (arith, blanks-more i.args.f.now i.loop-at.at i.loop-at-test.true c.if-f-at-ne-SPACE.false)
 
 pub returns : goal.returns
 returns c =
-    let l = c.loop-at in
     let f = c.args.f.now in
-    let e : l.at ≡ length f = omega arith in
-    let z : blanks_of (drop l.at f) ≡ 0 = rw e (blanks_end f) in
-    omega arith
+    let e = count_from_yields_List c.take_while.result c.count.result c.count.ensures.ran
+    (YieldsList-from_take_while _ (λ b. eqb b space) (YieldsList-from_slice f (cc)) (cc) (cc) (λ x b q k. search (rules, tests))) in
+    (e ∙ sym (blanks-taken f), omega (arith, e, blanks-taken f, blanks_inside f))

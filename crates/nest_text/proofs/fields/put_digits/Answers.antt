@@ -1,6 +1,6 @@
 -- `put_digits` meets its contract. Assumes nothing.
 use mathlib.Core.Path.{◌≡◌, refl, sym, ap, subst, ◌∙◌}
-use mathlib.Core.List.{[], ◌∷◌}
+use mathlib.Core.List.{[], ◌∷◌, ◌++◌}
 use Prim.Native.Nat.{ℕ, ◌-◌, ◌+◌, ◌/◌, ◌%◌, ◌≤◌, ◌<◌, ◌^◌}
 use native.Mathlib.Omega.{arith}
 use lib.ListN.{length, set, drop, take, length-set, length-drop, take-append-drop}
@@ -43,58 +43,55 @@ module _ (out out₀ : Bytes) (at rest v : ℕ) (one : 1 ≤ at) (long : length 
       (sym here) (digits_last rest (at - 1) (drop at out) h)
       ∙ rw (rest-of, p) refl
 
-pub loop-rest-init : goal.loop-rest-init
-loop-rest-init c =
+-- what the last digit leaves
+module _ (out out₀ : Bytes) (at rest v n : ℕ) (one : 1 ≤ at) (six : at ≤ columns) (long : length out ≡ columns) where
+  ends : take at out ≡ take at out₀ → digits_to columns n [] ≡ digits_to at rest (drop at out) → rest < 10 → v ≡ zero_digit + rest % 10
+      → (set out (at - 1) v ≡ take (at - 1) out₀ ++ digits_to columns n [])
+      × ((at - 1 < columns) × (at - 1 + length (digits_to columns n []) ≡ columns))
+  ends before digits few e =
+      let all : digits_to columns n [] ≡ drop (at - 1) (set out (at - 1) v) = digits ∙ last out out₀ at rest v one long six few e in
+      let front = kept out out₀ at rest v one long six before in
+      (rw (all, ← front) (sym (take-append-drop (at - 1) (set out (at - 1) v))), (omega arith, rw all (simp (length-drop, length-set) (omega arith))))
+
+pub loop-at-init : goal.loop-at-init
+loop-at-init c =
     let o = c.args.out.now in
     let e = c.requires.0 in
-    ((omega arith, omega arith), (e, (refl, (rw e c.requires.1, rw (drop-length o, e) refl))))
+    record {
+      some = omega arith;
+      few = omega arith;
+      long = e;
+      before = refl;
+      small = rw e c.requires.1;
+      digits = rw (drop-length o, e) refl;
+    }
 
-pub overflow_sub-at : goal.overflow_sub-at
-overflow_sub-at c = omega arith
-
-pub bounds-out-at : goal.bounds-out-at
-bounds-out-at c = omega arith
-
-pub loop-rest-smaller : goal.loop-rest-smaller
-loop-rest-smaller c = omega arith
-
-pub loop-rest-preserved : goal.loop-rest-preserved
-loop-rest-preserved c =
-    let l = c.loop-rest in
+pub loop-at-preserved : goal.loop-at-preserved
+loop-at-preserved c =
+    let l = c.loop-at in
     let i = l.invariant in
     let o = c.args.out.now in
     let v = c.digit_byte.result in
-    let two = two_digits l.rest l.at c.loop-rest-test.true i.1.1.1.0 in (
-      (omega arith, omega arith),
-      (
-        simp length-set i.1.0,
-        (
-          kept l.out o l.at l.rest v i.0.0 i.1.0 i.0.1 i.1.1.0,
-          (
-            less l.out o l.at l.rest v i.0.0 i.1.0 i.0.1 i.1.1.1.0,
-            i.1.1.1.1 ∙ more l.out o l.at l.rest v i.0.0 i.1.0 i.0.1 c.loop-rest-test.true c.digit_byte.ensures,
-          ),
-        ),
-      ),
-    )
+    let ten = c.if-rest-lt10.false in
+    let two = two_digits l.rest l.at ten i.small in record {
+      some = omega arith;
+      few = omega arith;
+      long = simp length-set i.long;
+      before = kept l.out o l.at l.rest v i.some i.long i.few i.before;
+      small = less l.out o l.at l.rest v i.some i.long i.few i.small;
+      digits = i.digits ∙ more l.out o l.at l.rest v i.some i.long i.few ten c.digit_byte.ensures;
+    }
 
-pub overflow_sub-at-2 : goal.overflow_sub-at-2
-overflow_sub-at-2 c = omega arith
-
-pub bounds-out-at-2 : goal.bounds-out-at-2
-bounds-out-at-2 c = omega arith
-
-pub shape_of-out : goal.shape_of-out
-shape_of-out c = simp length-set (omega arith)
+pub returns-then-rest-lt10 : goal.returns-then-rest-lt10
+returns-then-rest-lt10 c =
+    let l = c.loop-at in
+    let i = l.invariant in
+    ends l.out c.args.out.now l.at l.rest c.digit_byte.result c.args.n i.some i.few i.long i.before i.digits c.if-rest-lt10.true c.digit_byte.ensures
 
 pub returns : goal.returns
 returns c =
-    let l = c.loop-rest in
+    let l = c.loop-at in
     let i = l.invariant in
-    let a = c.args in
-    let v = c.digit_byte-2.result in
-    let new : Bytes = set l.out (l.at - 1) v in
-    let all : digits_to columns a.n [] ≡ drop (l.at - 1) new =
-    i.1.1.1.1 ∙ last l.out a.out.now l.at l.rest v i.0.0 i.1.0 i.0.1 c.loop-rest-test.false c.digit_byte-2.ensures in
-    let front = kept l.out a.out.now l.at l.rest v i.0.0 i.1.0 i.0.1 i.1.1.0 in
-    (rw (all, ← front) (sym (take-append-drop (l.at - 1) new)), (omega arith, rw all (simp (length-drop, length-set) (omega arith))))
+    let one : l.at ≡ 1 = omega arith in
+    rw one at (ends l.out c.args.out.now l.at l.rest c.digit_byte-2.result c.args.n i.some i.few i.long i.before i.digits
+    (rw one at i.small) c.digit_byte-2.ensures)

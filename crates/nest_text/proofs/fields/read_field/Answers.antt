@@ -10,4 +10,4 @@ pub returns : goal.returns
 unfolding read_of
 returns c =
     let l = c.args.f.now in
-    c.signed.ensures ∙ ap signed_of (rest_part l c.blanks-at.result ∙ ap (λ (a : ℕ). drop a l) c.blanks-at.ensures.0)
+    c.signed.ensures ∙ ap signed_of (rest_part l c.blanks.result ∙ ap (λ (a : ℕ). drop a l) c.blanks.ensures.0)

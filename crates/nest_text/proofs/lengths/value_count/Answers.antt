@@ -1,32 +1,38 @@
--- `value_count` meets its contract. Assumes nothing.
-use borrow.Author.Rules.{rules}
-use borrow.Author.Count.{below_more}
-use mathlib.Core.Path.{◌≡◌, sym, ap, ◌∙◌}
-use native.Mathlib.Nat.{not-suc-le-zero}
-use native.Mathlib.Omega.{arith}
-use mir.Syntax.{w64}
-use mir.Val.{to_z, of_z}
-use Rattle.integers.proofs.Bounds.{told}
-use Rattle.nest_text.specs.Text.{at}
-use Rattle.nest_text.proofs.EqualValues.{count-one, count-all}
+-- `value_count` answers 1 where each boundary value is the first.
+use Rattle.std.proofs.Common.{rules, ◌≡◌, sym, List, ◌∷◌, ℕ, ◌<◌, ℤ, Bool, length}
+use Rattle.std.specs.Bool.{MatchBool}
+use Rattle.std.specs.List.{AllWithin, HoldsAt}
+use Rattle.std.proofs.lemmas.Iterator.{YieldsList-from_slice, cases_from_any}
+use borrow.Author.Tests.{tests}
+use Rattle.nest_text.proofs.EqualValues.{count-one, count-all, count_none}
 use Rattle.nest_text.proofs.lengths.value_count.Goals as goal
+use Rattle.nest_text.proofs.lengths.value_count.Goals.{After-any}
 
-pub loop-i-init : goal.loop-i-init
-loop-i-init c = (search rules, λ j l. absurd (not-suc-le-zero l))
+-- the first and the others, and what the test of the others answers
+record Tested (bs : List ℤ) (a : ℤ) (zs : List ℤ) (differs : Bool) : Type 0 where
+  parts : bs ≡ a ∷ zs
+  answer : MatchBool differs ((k : ℕ) × (k < length zs) × HoldsAt (λ z. z ≡ a → ⊥) zs k) (AllWithin (λ z. z ≡ a) zs 0 (length zs))
 
-pub returns-then-boundaries-i : goal.returns-then-boundaries-i
-returns-then-boundaries-i c =
-    let a = c.args in
-    sym (count-all a.boundaries a.m c.loop-i.i (search rules) (λ e. c.if-boundaries-i.true (ap (of_z w64) e)))
+tested : (c : After-any) → Tested c.args.boundaries.now c.in-Some.first.now c.in-Some.others.now c.any.result
+tested c =
+    let a = c.in-Some.first.now in
+    let zs = c.in-Some.others.now in
+    record {
+      parts = search rules;
+      answer = cases_from_any _ _ c.any.result (λ z. z ≡ a → ⊥) (λ z. z ≡ a) c.any.ensures.ran (YieldsList-from_slice zs (cc))
+          (λ x q k. search (rules, tests)) (λ x q k. search (rules, tests));
+    }
 
-pub loop-i-preserved : goal.loop-i-preserved
-loop-i-preserved c =
-    let b = c.args.boundaries in
-    let l = c.loop-i in
-    let e : at b l.i ≡ at b 0 = sym (told (at b l.i) c.t9-1.given) ∙ ap (to_z w64) c.if-boundaries-i.false ∙ told (at b 0) c.t12-1.given in
-    (search rules, below_more (λ j. at b j ≡ at b 0) l.i l.invariant.1 e)
+pub returns-in-Some : goal.returns-in-Some
+returns-in-Some c =
+    let t = tested (goal.at.returns-in-Some c).After-any in
+    let d = rw c.if-any.true at t.answer in
+    rw t.parts (sym (count-all c.in-Some.first.now c.in-Some.others.now d.0 d.1 d.2))
 
-pub returns : goal.returns
-returns c =
-    let a = c.args in
-    sym (count-one a.boundaries a.m (λ j h. c.loop-i.invariant.1 j (omega arith)))
+pub returns-in_default : goal.returns-in_default
+returns-in_default c =
+    let t = tested (goal.at.returns-in_default c).After-any in
+    rw t.parts (sym (count-one c.in-Some.first.now c.in-Some.others.now (rw c.if-any.false at t.answer)))
+
+pub returns-in_default-2 : goal.returns-in_default-2
+returns-in_default-2 c = sym (count_none c.args.boundaries.now (search rules))

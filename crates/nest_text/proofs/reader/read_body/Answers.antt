@@ -1,99 +1,87 @@
 -- `read_body` meets its contract. Assumes nothing.
-use borrow.Author.Rules.{rules}
-use mathlib.Core.Path.{◌≡◌, ◌∙◌}
-use Prim.Native.Nat.{ℕ, ◌+◌, ◌<◌, ◌≤◌, ◌^◌}
-use native.Mathlib.Omega.{arith}
-use borrow.Author.Tests.{not-true, not-false}
-use lib.ListN.{length}
-use Rattle.nest_text.specs.Text.{line_length}
-use Rattle.nest.specs.Nest.{max_dependences}
-use Rattle.nest_text.proofs.LastLine.{width-least, width-most}
-use Rattle.nest_text.proofs.BodyLaws.{Reached, reached_start, turn_more, turn-malformed, body_trailing}
-use Rattle.nest_text.proofs.BodyLaws.{body-whole, body-malformed}
+use Rattle.std.proofs.Common.{rules, ◌≡◌, ◌∙◌, sym, ap₂, subst, ℕ, ◌+◌, ◌*◌, ◌≤◌, ◌<◌, length, arith}
+use Rattle.nest_text.specs.Fields.{Bytes, columns}
+use Rattle.nest.specs.declared.LoopNest.{LoopNest}
+use Rattle.nest_text.specs.declared.lengths.Layout.{Layout}
+use Rattle.nest.specs.Nest.{depth_of, count_of}
+use Rattle.nest_text.specs.Reader.{body_read, last_width}
+use Rattle.nest_text.proofs.FieldLaws.{rest_part}
+use Rattle.nest_text.proofs.BodyLaws.{Reached, turn_more, turn-malformed, body_trailing}
+use Rattle.nest_text.proofs.BodyLaws.{answered_inside, body-whole, body-malformed}
 use Rattle.nest_text.proofs.reader.read_body.Goals as goal
-use Rattle.nest_text.specs.Reader.{last_width}
-use Rattle.nest_text.proofs.reader.read_body.Goals.{After-with_line-s}
+use Rattle.nest_text.proofs.reader.read_body.Goals.{After-of_text-layout}
 
--- the last line has one field for each weight, and one for each boundary value or one for all
-least : (n m w bytes : ℕ) → w ≡ last_width n m bytes → m ≤ w
-least n m w bytes e = omega (arith, e, width-least n m bytes)
+-- the layout is that of the text: what is read by it, and the width of the last line
+record Laid (h : LoopNest) (bs : Bytes) (l : Layout) : Type 0 where
+  read_so : body_read l.loops l.dependences h.cube bs ≡ body_read (depth_of h) (count_of h) h.cube bs
+  wide : l.last ≡ last_width l.loops l.dependences (length bs)
 
-most : (n m w bytes : ℕ) → m ≤ max_dependences → w ≡ last_width n m bytes → w ≤ m + max_dependences
-most n m w bytes h e = omega (arith, e, width-most n m bytes h)
+laid : (c : After-of_text-layout) → Laid c.args.header c.args.text.now c.of_text-layout.result
+laid c =
+    let bs = c.args.text.now in
+    let t = c.of_text-layout.ensures in
+    let n : c.to_size-n.result ≡ depth_of c.args.header = search rules in
+    let m : c.to_size-m.result ≡ count_of c.args.header = search rules in
+    record {
+      read_so = ap₂ (λ (a b : ℕ). body_read a b c.args.header.cube bs) (t.0 ∙ n) (t.1 ∙ m);
+      wide = t.2 ∙ sym (ap₂ (λ (a b : ℕ). last_width a b (length bs)) t.0 t.1);
+    }
 
-pub loop-i-init : goal.loop-i-init
-loop-i-init c =
-    let a = c.args in
-    let w = c.last_width-last.result in
-    let e = c.last_width-last.ensures.0 in
-    let bytes = length a.text.now in
-    reached_start a.n a.m w a.header.cube a.text.now c.requires.0 c.requires.1 (least a.n a.m w bytes e) (most a.n a.m w bytes c.requires.1 e) a.header c.requires.2
+pub returns-in_err-row : goal.returns-in_err-row
+returns-in_err-row c =
+    let l = c.of_text-layout.result in
+    let w = l.within in
+    let bs = c.args.text.now in
+    let cube = c.args.header.cube in
+    let h = laid (goal.at.returns-in_err-row c).After-of_text-layout in
+    let inside : c.loop-i.i < l.loops + 1 + l.dependences + 1 = omega arith in
+    c.from_residual.ensures
+    ∙ body-malformed l.loops l.dependences l.last cube bs w.0 w.1 w.2 w.3 h.wide
+    (turn-malformed l.loops l.dependences l.last cube bs w.0 w.1 w.2 w.3 c.loop-i.i c.loop-i.rest.now c.loop-i.s c.loop-i.invariant inside
+    c.width-k.result c.width-k.ensures.0 c.in_err-row.ensures)
+    ∙ h.read_so
 
-pub returns-then-not-line : goal.returns-then-not-line
-returns-then-not-line c =
-    let a = c.args in
-    let w = c.last_width-last.result in
-    let e = c.last_width-last.ensures.0 in
-    let bytes = length a.text.now in
-    let low = least a.n a.m w bytes e in
-    let high = most a.n a.m w bytes c.requires.1 e in
-    let l = c.loop-i in
-    c.no_body.ensures
-    ∙ body-malformed a.n a.m w a.header.cube a.text.now c.requires.0 c.requires.1 low high e
-    (turn-malformed a.n a.m w a.header.cube a.text.now c.requires.0 c.requires.1 low high l.i l.at l.s l.invariant c.loop-i-test.true c.width-k.result
-    c.read_line-line.result c.width-k.ensures.0 c.read_line-line.ensures (not-true c.read_line-line.result.ok c.if-not-line.true))
+pub slice_bounds-rest-count : goal.slice_bounds-rest-count
+slice_bounds-rest-count c = answered_inside c.width-k.result c.loop-i.rest.now c.in_ok-row.row c.in_ok-row.ensures
 
--- the state after one line more
-next : (c : After-with_line-s) → let l = c.loop-i in let a = c.args in
-    Reached a.n a.m c.last_width-last.result a.header.cube a.text.now (l.i + 1) (l.at + line_length c.width-k.result) c.with_line-s.result
-next c =
-    let a = c.args in
-    let w = c.last_width-last.result in
-    let e = c.last_width-last.ensures.0 in
-    let bytes = length a.text.now in
-    let low = least a.n a.m w bytes e in
-    let high = most a.n a.m w bytes c.requires.1 e in
-    let l = c.loop-i in
-    turn_more a.n a.m w a.header.cube a.text.now c.requires.0 c.requires.1 low high l.i l.at l.s l.invariant c.loop-i-test.true c.width-k.result
-    c.read_line-line.result c.width-k.ensures.0 c.read_line-line.ensures c.with_line-s.result (not-false c.read_line-line.result.ok c.if-not-line.false)
-    c.with_line-s.ensures
-
-pub with_line-s-requires : goal.with_line-s-requires
-with_line-s-requires c =
-    let a = c.args in
-    let w = c.last_width-last.result in
-    let e = c.last_width-last.ensures.0 in
-    let bytes = length a.text.now in
-    (c.requires.0, c.requires.1, least a.n a.m w bytes e, most a.n a.m w bytes c.requires.1 e)
-
-pub overflow_add-at-in-loop-i : goal.overflow_add-at-in-loop-i
-overflow_add-at-in-loop-i c =
-    let h = (next c).inside in
-    let f : length c.args.text.now < 2 ^ 64 = search rules in
-    omega arith
+pub slice_bounds-rest-start : goal.slice_bounds-rest-start
+slice_bounds-rest-start c = answered_inside c.width-k.result c.loop-i.rest.now c.in_ok-row.row c.in_ok-row.ensures
 
 pub loop-i-preserved : goal.loop-i-preserved
-loop-i-preserved c = next c
+loop-i-preserved c =
+    let l = c.of_text-layout.result in
+    let w = l.within in
+    let bs = c.args.text.now in
+    let cube = c.args.header.cube in
+    let rest = c.loop-i.rest.now in
+    let k = c.width-k.result in
+    let inside : c.loop-i.i < l.loops + 1 + l.dependences + 1 = omega arith in
+    subst (λ (r : Bytes). Reached l.loops l.dependences l.last cube bs (c.loop-i.i + 1) r c.with_line-s.result)
+    (sym (rest_part rest (columns * k + 1)))
+    (turn_more l.loops l.dependences l.last cube bs w.0 w.1 w.2 w.3 c.loop-i.i rest c.loop-i.s c.loop-i.invariant inside
+    k c.width-k.ensures.0 c.in_ok-row.row c.in_ok-row.ensures c.with_line-s.result c.with_line-s.ensures)
 
-pub returns-then-at-text : goal.returns-then-at-text
-returns-then-at-text c =
-    let a = c.args in
-    let w = c.last_width-last.result in
-    let e = c.last_width-last.ensures.0 in
-    let bytes = length a.text.now in
-    let low = least a.n a.m w bytes e in
-    let high = most a.n a.m w bytes c.requires.1 e in
-    let l = c.loop-i in
-    c.no_body-then-at-text.ensures
-    ∙ body-malformed a.n a.m w a.header.cube a.text.now c.requires.0 c.requires.1 low high e
-    (body_trailing a.n a.m w a.header.cube a.text.now c.requires.0 c.requires.1 low high l.i l.at l.s l.invariant (omega arith) c.if-at-text.true)
+pub returns-then-not-is_empty : goal.returns-then-not-is_empty
+returns-then-not-is_empty c =
+    let l = c.of_text-layout.result in
+    let w = l.within in
+    let bs = c.args.text.now in
+    let cube = c.args.header.cube in
+    let h = laid (goal.at.returns-then-not-is_empty c).After-of_text-layout in
+    let some : 0 < length c.loop-i.rest.now = search rules in
+    let all : l.loops + 1 + l.dependences + 1 ≤ c.loop-i.i = omega arith in
+    body-malformed l.loops l.dependences l.last cube bs w.0 w.1 w.2 w.3 h.wide
+    (body_trailing l.loops l.dependences l.last cube bs w.0 w.1 w.2 w.3 c.loop-i.i c.loop-i.rest.now c.loop-i.s c.loop-i.invariant all some)
+    ∙ h.read_so
 
 pub returns : goal.returns
 returns c =
-    let a = c.args in
-    let w = c.last_width-last.result in
-    let e = c.last_width-last.ensures.0 in
-    let bytes = length a.text.now in
-    let l = c.loop-i in
-    body-whole a.n a.m w a.header.cube a.text.now c.requires.0 c.requires.1 (least a.n a.m w bytes e) (most a.n a.m w bytes c.requires.1 e) l.i l.at l.s
-    l.invariant (omega arith) e c.if-at-text.false
+    let l = c.of_text-layout.result in
+    let w = l.within in
+    let bs = c.args.text.now in
+    let cube = c.args.header.cube in
+    let h = laid (goal.at.returns c).After-of_text-layout in
+    let none : length c.loop-i.rest.now ≡ 0 = search rules in
+    let all : l.loops + 1 + l.dependences + 1 ≤ c.loop-i.i = omega arith in
+    body-whole l.loops l.dependences l.last cube bs w.0 w.1 w.2 w.3 c.loop-i.i c.loop-i.rest.now c.loop-i.s c.loop-i.invariant all h.wide none
+    ∙ h.read_so

@@ -1,10 +1,6 @@
 -- `read_line` answers whether the text begins with a line of k fields, and its numbers.
-use Prim.Native.Nat.{◌-◌}
 use Rattle.nest_text.proofs.LineLaws.{LineRead}
 use Rattle.nest_text.proofs.reader.read_line.Given as goal
 
 abbrev pub invariant-loop-i : goal.invariant-loop-i
-invariant-loop-i l = LineRead l.text l.k l.i l.numbers
-
-abbrev pub decreases-loop-i : goal.decreases-loop-i
-decreases-loop-i l = l.k - l.i
+invariant-loop-i l = LineRead l.text l.k l.i l.z-items

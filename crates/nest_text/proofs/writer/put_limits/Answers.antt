@@ -1,64 +1,57 @@
 -- `put_limits` meets its contract. Assumes nothing.
-use mathlib.Core.Path.{◌≡◌, refl, subst}
+use Rattle.std.proofs.Common.{rules, ℕ, ◌<◌, List, ℤ, ◌≡◌, ◌∙◌, pos, length, get_or, arith, zero-add, to_z, of_z, w64}
+use Rattle.std.proofs.lemmas.List.{length_push}
 use mathlib.Core.List.{flat_map}
-use Prim.Native.Nat.{ℕ}
-use native.Mathlib.Omega.{arith}
-use lib.IntN.{pos}
-use lib.ListN.{get_or}
 use Rattle.integers.specs.Lists.{tab}
-use Rattle.nest_text.specs.Text.{line}
-use Rattle.nest_text.specs.Stored.{Stored}
-use Rattle.integers.proofs.Bounds.{told}
-use Rattle.nest_text.proofs.WriteLaws.{stored-none, stored-length, stored_as, lines_more, pair_fits, pair_line, pair-length}
-use Rattle.nest_text.proofs.writer.put_limits.Invariants.{limits}
+use Rattle.std.proofs.lemmas.Slice.Zip.{zip_turn}
+use Rattle.nest_text.specs.Stored.{InColumns}
+use Rattle.nest_text.proofs.WriteLaws.{stored-none, stored_as, lines_more, limits, pair_fits, pair_line, pair-length}
 use Rattle.nest_text.proofs.writer.put_limits.Goals as goal
+use Rattle.nest_text.proofs.writer.put_limits.Goals.{In-Some}
 
-pub loop-k-init : goal.loop-k-init
+pub loop-low-init : goal.loop-low-init
 unfolding tab flat_map
-loop-k-init c = (omega arith, (omega arith, (refl, stored-none c.args.out.now c.args.at)))
+loop-low-init c = record { place = omega arith; stored = stored-none c.args.out.now c.args.at }
 
-pub offset_bounds-lower-k : goal.offset_bounds-lower-k
-offset_bounds-lower-k c = omega arith
+-- the limits of this turn's loop are those of loop k, which have room in their columns
+record Turn (lower upper : List ℤ) (k : ℕ) (low high : ℤ) : Type 0 where
+  inside : k < length lower
+  low_is : low ≡ get_or lower k (pos 0)
+  high_is : high ≡ get_or upper k (pos 0)
+  low_fits : InColumns (get_or lower k (pos 0))
+  high_fits : InColumns (get_or upper k (pos 0))
 
-pub bounds-lower-k : goal.bounds-lower-k
-bounds-lower-k c = omega arith
-
-pub offset_bounds-upper-k : goal.offset_bounds-upper-k
-offset_bounds-upper-k c = omega arith
-
-pub bounds-upper-k : goal.bounds-upper-k
-bounds-upper-k c = omega arith
+turn : (c : In-Some) → Turn c.args.lower.now c.args.upper.now (length c.loop-low.yielded) c.in-Some.low.now c.in-Some.high.now
+turn c =
+    let t = zip_turn c.args.lower.now c.args.upper.now c.loop-low.yielded c.into_iter-low-iterator.result c.loop-low.low-iterator c.next.new.self
+    c.next.result (cc) (cc) c.loop-low.yielded_by (c.in-Some.low, c.in-Some.high) c.in-Some.is c.next.ensures.steps in
+    let k = length c.loop-low.yielded in
+    record {
+      inside = t.0;
+      low_is = t.2 (pos 0);
+      high_is = t.3 (pos 0);
+      low_fits = rw zero-add at (c.requires.2 k t.0);
+      high_fits = rw zero-add at (c.requires.3 k t.1);
+    }
 
 pub put_line-end-requires : goal.put_line-end-requires
 put_line-end-requires c =
-    let k = c.loop-k.k in
-    let h = c.requires.1.1 k (omega arith) in
-    let a = get_or c.args.lower k (pos 0) in
-    let b = get_or c.args.upper k (pos 0) in
-    (omega arith, (omega arith, pair_fits {a = a} {b = b} (told a c.numbers-1.given) (told b c.numbers-in-loop-k-1.given) h.0 h.1))
+    let t = turn (goal.at.put_line-end-requires c).In-Some in
+    let lo : to_z w64 (of_z w64 c.in-Some.low.now) ≡ c.in-Some.low.now = search rules in
+    let hi : to_z w64 (of_z w64 c.in-Some.high.now) ≡ c.in-Some.high.now = search rules in
+    (omega (arith, t.inside), pair_fits (lo ∙ t.low_is) (hi ∙ t.high_is) t.low_fits t.high_fits)
 
-pub overflow_step-k : goal.overflow_step-k
-overflow_step-k c = omega arith
-
-pub loop-k-smaller : goal.loop-k-smaller
-loop-k-smaller c = omega arith
-
-pub loop-k-preserved : goal.loop-k-preserved
-loop-k-preserved c =
-    let l = c.loop-k in
-    let h = c.requires.1.1 l.k (omega arith) in
-    let a = get_or c.args.lower l.k (pos 0) in
-    let b = get_or c.args.upper l.k (pos 0) in
-    let q = stored_as (pair_line {a = a} {b = b} (told a c.numbers-1.given) (told b c.numbers-in-loop-k-1.given)) c.put_line-end.ensures in
-    let s = lines_more (limits c.args.lower c.args.upper) l.k l.invariant.1.1.1 q in
-    (omega arith, (omega (arith, q.ends, pair-length a b h.0 h.1), (stored-length s, s)))
-
-pub shape_of-out : goal.shape_of-out
-shape_of-out c = c.loop-k.invariant.1.1.0
-
-pub returns : goal.returns
-returns c =
-    let a = c.args in
-    let l = c.loop-k in
-    let e : l.k ≡ a.n = omega arith in
-    subst (λ (j : ℕ). Stored a.out.now a.at (flat_map line (tab (limits a.lower a.upper) j)) l.out l.end) e l.invariant.1.1.1
+pub loop-low-preserved : goal.loop-low-preserved
+loop-low-preserved c =
+    let lower = c.args.lower.now in
+    let upper = c.args.upper.now in
+    let k = length c.loop-low.yielded in
+    let t = turn (goal.at.loop-low-preserved c).In-Some in
+    let lo : to_z w64 (of_z w64 c.in-Some.low.now) ≡ c.in-Some.low.now = search rules in
+    let hi : to_z w64 (of_z w64 c.in-Some.high.now) ≡ c.in-Some.high.now = search rules in
+    let q = stored_as (pair_line (lo ∙ t.low_is) (hi ∙ t.high_is)) c.put_line-end.ensures in
+    let n = length_push c.loop-low.yielded (c.in-Some.low, c.in-Some.high) in
+    record {
+      place = rw n (omega (arith, q.ends, pair-length (get_or lower k (pos 0)) (get_or upper k (pos 0)) t.low_fits t.high_fits, c.loop-low.invariant.place));
+      stored = rw n (lines_more (limits lower upper) k c.loop-low.invariant.stored q);
+    }

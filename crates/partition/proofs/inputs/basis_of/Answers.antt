@@ -1,57 +1,55 @@
 -- `basis_of` answers the basis of an accepted nest.
-use mathlib.Core.Path.{◌≡◌, sym, ◌∙◌, ap, ap₂}
-use native.Mathlib.Omega.{arith}
-use lib.IntN.{pos}
-use mir.Syntax.{w64}
-use mir.Val.{to_z}
+use Rattle.std.proofs.Common.{◌≡◌, ◌∙◌, ◌≤◌, pos, length, sym, ap, arith, rules, w64}
+use Rattle.std.proofs.lemmas.List.{length-take-le}
 use mir.Facts.{to_z_pos}
-use Rattle.integers.proofs.Bounds.{told}
-use Rattle.nest.specs.Nest.{to_ℕ, depth_of, count_of}
-use Rattle.grouping.specs.Grouping.{chosen_vectors}
-use Rattle.partition.proofs.NestVectors.{asked, size_is, chosen-padded}
+use Rattle.nest.proofs.Accepted.{count_is}
+use Rattle.partition.proofs.NestVectors.{asked-spans, asked-time, size_is, chosen_is}
 use Rattle.partition.proofs.inputs.basis_of.Goals as goal
-use Rattle.partition.proofs.inputs.basis_of.Goals.{After-to_size-m}
+use Rattle.partition.proofs.inputs.basis_of.Goals.{After-count}
 
--- the depth and the number of dependences as sizes
-depth : (c : After-to_size-m) → c.to_size-n.result ≡ depth_of c.args.s
-depth c = c.to_size-n.ensures ∙ ap to_ℕ (told c.args.s.depth c.struct_told-1.given.0.1)
+fits : (c : After-count) → c.count.result ≤ length c.dependence_rows-table.result
+fits c =
+    let l : length c.dependence_rows-table.result ≡ 8 = search rules in
+    omega (arith, c.count.ensures, (count_is c.args.s.now.nest c.args.s.now.accepted).1, l)
 
-count : (c : After-to_size-m) → c.to_size-m.result ≡ count_of c.args.s
-count c = c.to_size-m.ensures ∙ ap to_ℕ (told c.args.s.count c.struct_told-2-1.given.1.0.1)
+pub slice_bounds-table-end : goal.slice_bounds-table-end
+slice_bounds-table-end c = fits c
 
-pub time_vector-p-requires : goal.time_vector-p-requires
-time_vector-p-requires c = (c.requires.0, depth c)
+pub slice_bounds-ds-end : goal.slice_bounds-ds-end
+slice_bounds-ds-end c = sym (length-take-le c.count.result c.dependence_rows-table.result (fits (goal.at.slice_bounds-ds-end c).After-count))
 
-pub dependence_table-ds-requires : goal.dependence_table-ds-requires
-dependence_table-ds-requires c =
-    let at_to_size = (goal.at.dependence_table-ds-requires c).After-to_size-m in
-    (c.requires.0, depth at_to_size, count at_to_size)
+pub grouping_index-g-requires-clause-all_within : goal.grouping_index-g-requires-clause-all_within
+grouping_index-g-requires-clause-all_within c =
+    let t = c.dependence_rows-table in
+    asked-spans c.args.s.now.nest c.args.s.now.accepted c.count.result c.time_row-p.result t.result c.count.ensures c.time_row-p.ensures t.ensures.value t.ensures.within
 
-pub grouping_index-g-requires : goal.grouping_index-g-requires
-grouping_index-g-requires c =
-    let a = asked c.args.s c.requires.0 c.to_size-m.result c.time_vector-p.result c.dependence_table-ds.result (count (goal.at.grouping_index-g-requires c).After-to_size-m) c.time_vector-p.ensures c.dependence_table-ds.ensures.1 in
-    let r : to_z w64 c.args.r ≡ pos c.args.r = to_z_pos w64 (omega (arith, c.requires.2)) in
-    record {
-      m_le_max_vectors = a.0;
-      all_within = a.1.0;
-      pos_bound = a.1.1;
-      r_value = r ∙ ap pos (c.requires.1 ∙ sym (size_is c.args.s c.to_size-m.result c.time_vector-p.result c.dependence_table-ds.result c.time_vector-p.ensures c.dependence_table-ds.ensures.0));
-    }
+pub grouping_index-g-requires-clause-pos_bound : goal.grouping_index-g-requires-clause-pos_bound
+grouping_index-g-requires-clause-pos_bound c =
+    let t = c.dependence_rows-table in
+    asked-time c.args.s.now.nest c.args.s.now.accepted c.count.result c.time_row-p.result t.result c.count.ensures c.time_row-p.ensures t.ensures.value t.ensures.within
 
-pub choose-requires : goal.choose-requires
-choose-requires c =
-    let a = asked c.args.s c.requires.0 c.to_size-m.result c.time_vector-p.result c.dependence_table-ds.result (count (goal.at.choose-requires c).After-to_size-m) c.time_vector-p.ensures c.dependence_table-ds.ensures.1 in
-    record {
-      m_le_max_vectors = a.0;
-      all_within = a.1.0;
-      pos_bound = a.1.1;
-      g_value = c.grouping_index-g.ensures;
-    }
+pub grouping_index-g-requires-clause-r_value : goal.grouping_index-g-requires-clause-r_value
+grouping_index-g-requires-clause-r_value c =
+    let t = c.dependence_rows-table in
+    to_z_pos w64 (omega (arith, c.requires.1))
+    ∙ ap pos (c.requires.0 ∙ sym (size_is c.args.s.now.nest c.args.s.now.accepted c.count.result c.time_row-p.result t.result c.count.ensures c.time_row-p.ensures t.ensures.value t.ensures.within))
+
+pub choose-requires-clause-all_within : goal.choose-requires-clause-all_within
+choose-requires-clause-all_within c =
+    let t = c.dependence_rows-table in
+    asked-spans c.args.s.now.nest c.args.s.now.accepted c.count.result c.time_row-p.result t.result c.count.ensures c.time_row-p.ensures t.ensures.value t.ensures.within
+
+pub choose-requires-clause-pos_bound : goal.choose-requires-clause-pos_bound
+choose-requires-clause-pos_bound c =
+    let t = c.dependence_rows-table in
+    asked-time c.args.s.now.nest c.args.s.now.accepted c.count.result c.time_row-p.result t.result c.count.ensures c.time_row-p.ensures t.ensures.value t.ensures.within
 
 pub returns : goal.returns
 returns c =
-    let e = c.choose.ensures in
+    let t = c.dependence_rows-table in
     record {
-      framed = e.framed;
-      p_value = (e.p_value.0 ∙ c.time_vector-p.ensures, e.p_value.1 ∙ ap₂ chosen_vectors c.time_vector-p.ensures c.dependence_table-ds.ensures.0 ∙ chosen-padded c.args.s);
+      p_value = (
+        c.choose.ensures.p_value.0 ∙ c.time_row-p.ensures,
+        c.choose.ensures.p_value.1 ∙ chosen_is c.args.s.now.nest c.args.s.now.accepted c.count.result c.time_row-p.result t.result c.count.ensures c.time_row-p.ensures t.ensures.value t.ensures.within,
+      );
     }

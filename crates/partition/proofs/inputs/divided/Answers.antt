@@ -1,66 +1,61 @@
 -- `divided` divides, and makes no component larger.
-use mathlib.Core.Path.{◌≡◌, sym, ap₂, ◌∙◌, subst}
-use Prim.Native.Nat.{ℕ, ◌≤◌, ◌<◌, ◌^◌}
+use Rattle.std.proofs.Common.{◌≡◌, ◌∙◌, ◌≤◌, ◌++◌, ℤ, List, get_or, set, map, length, take, drop, sym, ap, ap₂, subst, pos, nat_abs, arith, rules}
 use native.Mathlib.Nat.{le_trans}
-use native.Mathlib.Omega.{arith}
 use lib.Dec.{lit≤}
-use lib.IntN.{ℤ, pos, nat_abs, ◌*ℤ◌}
-use lib.Signed.{mag, quot_z}
-use lib.ListN.{get_or}
 use mir.Facts.{to_z-of_z}
-use Rattle.integers.proofs.Bounds.{told}
+use Rattle.std.specs.Int.Signed.{quot_z}
+use Rattle.std.proofs.lemmas.List.{take_all, drop_all, append-nil}
+use Rattle.std.proofs.lemmas.List.Edits.{map_over_more}
+use Rattle.integers.proofs.Bounds.{told, back}
+use Rattle.integers.proofs.ListFacts.{get_d_default}
 use Rattle.integers.proofs.Linear.{ints}
 use Rattle.integers.proofs.Machine.{reads}
-use Rattle.grouping.proofs.Sizes.{element, element-within}
-use Rattle.classes.proofs.Lined.{part-is, times-four}
-use Rattle.grouping.proofs.Whole.{quot_size}
+use Rattle.integers.proofs.Vector.{get_or-within}
+use Rattle.grouping.specs.Periods.{Serves}
+use Rattle.partition.proofs.LineLaws.{divided-times, divided-within}
+use Rattle.partition.proofs.Passed.{next_old, passed-length}
 use Rattle.partition.proofs.inputs.divided.Goals as goal
-use Rattle.partition.proofs.inputs.divided.Goals.{Start}
+use Rattle.partition.proofs.inputs.divided.Goals.{In-loop-part, Start}
 
--- component i, as it is read
-abbrev el : Start → ℕ → ℤ
-el d i = reads (get_or d.args.v i (pos 0))
+-- the divisor, as it is read
+divisor : (d : Start) → reads d.args.g ≡ d.args.g
+divisor d = to_z-of_z d.ranges.g
 
-small : (d : Start) (i : ℕ) → nat_abs (el d i) ≤ 16
-small d i = element-within 16 d.args.v i (omega arith) d.requires.0
+-- the next component is still the old one, so it is small
+abbrev next : In-loop-part → ℤ
+next d = get_or d.loop-part.part-items d.loop-part.part-index (pos 0)
 
--- what the division requires
-asks : (d : Start) (i : ℕ) → (reads d.args.g ≡ pos 0 → ⊥) × (nat_abs (el d i) ≤ 1000000000) × (nat_abs (reads d.args.g) ≤ 1000000000)
-asks d i =
-    let e = to_z-of_z d.ranges.g in
-    let h = d.requires.1 in
-    (λ z. let q : d.args.g ≡ pos 0 = sym e ∙ z in absurd (omega ints), le_trans (small d i) (lit≤ tt), subst (λ (z : ℤ). nat_abs z ≤ 1000000000) (sym e) (le_trans d.requires.2 (lit≤ tt)))
+next-small : (d : In-loop-part) → nat_abs (next d) ≤ 16
+next-small d =
+    let i = d.loop-part.part-index in
+    let l : length d.args.v ≡ 4 = search rules in
+    let e : next d ≡ get_or d.args.v i (pos 0) = ap (λ (u : List ℤ). get_or u i (pos 0)) d.loop-part.invariant ∙ next_old (pos 0) (λ x. quot_z x (reads d.args.g)) d.args.v i (omega arith) in
+    subst (λ (z : ℤ). nat_abs z ≤ 16) (sym e) (get_or-within 16 d.args.v i d.requires.0)
 
--- and what it gives
-each : (d : Start) (i : ℕ) (r : ℤ) → mag r < 2 ^ 63 → r ≡ quot_z (el d i) (reads d.args.g) → nat_abs (reads r) ≤ 16
-each d i r ok e = subst (λ (z : ℤ). nat_abs z ≤ 16) (sym (told r ok ∙ e)) (le_trans (quot_size (el d i) (reads d.args.g)) (small d i))
-
--- it leaves no remainder
-exact : (d : Start) (i : ℕ) (r : ℤ) → i < 4 → mag r < 2 ^ 63 → r ≡ quot_z (el d i) (reads d.args.g) → d.args.g *ℤ reads r ≡ get_or d.args.v i (pos 0)
-exact d i r l ok e =
-    part-is (get_or d.args.v i (pos 0)) d.args.g (reads r) d.requires.1 (d.requires.3 i l)
-    (told r ok ∙ e ∙ ap₂ quot_z (element 16 d.args.v i (omega arith) d.requires.0) (to_z-of_z d.ranges.g))
+next-read : (d : In-loop-part) → reads (next d) ≡ next d
+next-read d = back (next d) (next-small d) (lit≤ tt)
 
 pub quotient-requires : goal.quotient-requires
-quotient-requires c = asks (goal.at.quotient-requires c).Start 0
+quotient-requires c =
+    let d = (goal.at.quotient-requires c).In-loop-part in
+    let e = divisor (goal.at.quotient-requires c).Start in
+    rw (e, next-read d) ((λ (z : c.args.g ≡ pos 0). let h = c.requires.1 in absurd (omega (ints, z, h))), le_trans (next-small d) (lit≤ tt), le_trans c.requires.2 (lit≤ tt))
 
-pub quotient-requires-2 : goal.quotient-requires-2
-quotient-requires-2 c = asks (goal.at.quotient-requires-2 c).Start 1
-
-pub quotient-requires-3 : goal.quotient-requires-3
-quotient-requires-3 c = asks (goal.at.quotient-requires-3 c).Start 2
-
-pub quotient-requires-4 : goal.quotient-requires-4
-quotient-requires-4 c = asks (goal.at.quotient-requires-4 c).Start 3
+pub loop-part-preserved : goal.loop-part-preserved
+loop-part-preserved c =
+    let d = (goal.at.loop-part-preserved c).In-loop-part in
+    let i = c.loop-part.part-index in
+    let l : length c.args.v ≡ 4 = search rules in
+    let m : length c.loop-part.part-items ≡ 4 = ap (λ (u : List ℤ). length u) c.loop-part.invariant ∙ passed-length (λ x. quot_z x (reads c.args.g)) c.args.v i ∙ l in
+    let q : reads c.quotient.result ≡ quot_z (next d) (reads c.args.g) = told c.quotient.result c.quotient.type_inv ∙ c.quotient.ensures ∙ ap (λ (x : ℤ). quot_z x (reads c.args.g)) (next-read d) in
+    ap (λ (x : ℤ). set c.loop-part.part-items i x) q
+    ∙ map_over_more (λ x. quot_z x (reads c.args.g)) c.args.v c.loop-part.part-items i (next d) (omega arith) c.loop-part.invariant (get_d_default (pos 0) (next d) c.loop-part.part-items i (omega arith))
 
 pub returns : goal.returns
 returns c =
-    let at_start = (goal.at.returns c).Start in
-    let a = c.quotient in
-    let b = c.quotient-2 in
-    let x = c.quotient-3 in
-    let y = c.quotient-4 in (
-      (each at_start 0 a.result a.type_inv a.ensures, (each at_start 1 b.result b.type_inv b.ensures, (each at_start 2 x.result x.type_inv x.ensures, (each at_start 3 y.result y.type_inv y.ensures, tt)))),
-      times-four c.args.v c.args.g (reads a.result) (reads b.result) (reads x.result) (reads y.result) (omega arith)
-          (exact at_start 0 a.result (omega arith) a.type_inv a.ensures) (exact at_start 1 b.result (omega arith) b.type_inv b.ensures) (exact at_start 2 x.result (omega arith) x.type_inv x.ensures) (exact at_start 3 y.result (omega arith) y.type_inv y.ensures),
-    )
+    let l : length c.args.v ≡ 4 = search rules in
+    let i = c.loop-part.part-index in
+    let all : c.loop-part.part-items ≡ map (λ x. quot_z x c.args.g) c.args.v =
+    c.loop-part.invariant ∙ ap (λ (g : ℤ). map (λ x. quot_z x g) (take i c.args.v) ++ drop i c.args.v) (divisor (goal.at.returns c).Start)
+    ∙ ap₂ (λ (u w : List ℤ). map (λ x. quot_z x c.args.g) u ++ w) (take_all i c.args.v (omega arith)) (drop_all i c.args.v (omega arith)) ∙ append-nil (map (λ x. quot_z x c.args.g) c.args.v) in
+    rw all (divided-within 16 c.args.v c.args.g c.requires.0, divided-times c.args.v c.args.g c.requires.1 (subst (λ n. Serves c.args.v c.args.g (pos 1) n) (sym l) c.requires.3))

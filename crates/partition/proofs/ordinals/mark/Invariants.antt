@@ -1,12 +1,7 @@
--- `mark` meets its contract. The loop's invariant: the flags of the first k numbers are set, and no others. Assumes nothing.
-use mathlib.Core.Path.{◌≡◌}
-use Prim.Native.Nat.{◌-◌, ◌≤◌}
-use lib.ListN.{length, take}
+-- `mark` meets its contract. The loop's invariant: the flags of the numbers that were passed are set, and no others. Assumes nothing.
+use Rattle.std.proofs.Common.{◌≡◌, length, take}
 use Rattle.partition.specs.KeySteps.{flags}
 use Rattle.partition.proofs.ordinals.mark.Given as goal
 
-abbrev pub invariant-loop-k : goal.invariant-loop-k
-invariant-loop-k l = (l.k ≤ l.count) × (l.table ≡ flags (take l.k l.numbers) (length l.initial.table))
-
-abbrev pub decreases-loop-k : goal.decreases-loop-k
-decreases-loop-k l = l.count - l.k
+abbrev pub invariant-loop-number : goal.invariant-loop-number
+invariant-loop-number l = l.table ≡ flags (take l.number-index l.numbers) (length l.initial.table)

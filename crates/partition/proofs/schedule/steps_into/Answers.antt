@@ -1,101 +1,110 @@
 -- `steps_into` meets its contract. Assumes nothing.
-use borrow.Author.Rules.{rules}
-use mathlib.Core.Path.{◌≡◌, sym, ap, subst, ◌∙◌}
-use mathlib.Core.List.{List, ◌++◌}
-use Prim.Native.Nat.{ℕ, ◌+◌, ◌-◌, ◌*◌, ◌<◌, ◌≤◌}
-use native.Mathlib.Omega.{arith}
-use lib.IntN.{ℤ}
-use lib.ListN.{length, get_or, drop}
+use Rattle.std.proofs.Common.{◌≡◌, ◌∙◌, ◌+◌, ◌-◌, ◌*◌, ◌≤◌, ◌<◌, ◌++◌, ℕ, ℤ, List, nat_abs, length, get_or, map, take, drop, sym, ap, ap₂, subst, subst₂, arith, rules}
+use Rattle.std.proofs.lemmas.List.{length-take-le}
 use Rattle.integers.proofs.Bounds.{told}
-use Rattle.integers.specs.Lists.{greatest, tab}
 use Rattle.integers.proofs.Machine.{reads}
-use Rattle.nest.specs.Nest.{to_ℕ, depth_of, max_depth}
+use Rattle.integers.specs.Extremes.{least_z}
+use Rattle.integers.specs.Lists.{greatest}
+use Rattle.nest.specs.Nest.{max_depth}
 use Rattle.nest.specs.Points.{points_of}
+use Rattle.nest.proofs.Accepted.{depth_is}
 use Rattle.nest.proofs.PointLaws.{some-points}
 use Rattle.sources.proofs.Arrays.{keys_length}
-use Rattle.partition.specs.KeySteps.{Timed, max_product, raised}
-use Rattle.partition.proofs.Products.{nest_timed, Raised, products-raised, least-small, raised-few, elapsed-counted, range_most, steps-made}
+use Rattle.partition.specs.KeySteps.{max_product, raised, Counted, standing, ordinals}
+use Rattle.partition.specs.Partition.{elapsed_of, steps_of}
+use Rattle.partition.proofs.Products.{front_timed, products-front, products, least-small, raised-few, elapsed_are, elapsed-counted, range_most, number_made, steps-made}
 use Rattle.partition.proofs.schedule.steps_into.Goals as goal
-use Rattle.partition.proofs.schedule.steps_into.Goals.{After-elapsed_from-range, After-products_into-least, After-to_size-n, Start}
-
--- the depth
-depth : (c : After-to_size-n) → c.to_size-n.result ≡ depth_of c.args.s
-depth c = c.to_size-n.ensures ∙ ap to_ℕ (told c.args.s.depth c.struct_told-1.given.0.1)
+use Rattle.partition.proofs.schedule.steps_into.Goals.{After-depth, After-elapsed_from-range, After-products_into-least, After-raised, Start}
 
 -- there is a key for each iteration
-keys-many : (d : Start) → length d.args.keys.now ≡ length (points_of d.args.s)
-keys-many d = ap length d.requires.1 ∙ keys_length d.args.s
+keys-many : (d : Start) → length d.args.s.now.keys.now ≡ length (points_of d.args.s.now.nest.now.nest)
+keys-many d = ap (λ (l : List ℤ). length l) d.args.s.now.keyed ∙ keys_length d.args.s.now.nest.now.nest
 
-abbrev table : After-products_into-least → List ℕ
-table c = c.products_into-least.new.steps
+room : (d : Start) → length d.args.s.now.keys.now ≤ length d.args.steps.now
+room d = omega (arith, keys-many d, d.requires)
 
-abbrev least : After-products_into-least → ℤ
-least c = reads c.products_into-least.result
-
-made : (c : After-products_into-least) → Raised c.args.s c.requires.0 c.args.keys.now c.args.steps.now (table c) (least c)
-made c =
-    let d = c in
-    let e = c in
-    products-raised d.args.s d.requires.0 d.args.keys.now d.args.steps.now (table c) (least c) e.to_size-n.result (depth (goal.at.After-products_into-least e).After-to_size-n) d.requires.1 (told c.products_into-least.result c.products_into-least.type_inv ∙ c.products_into-least.ensures.result_value) c.products_into-least.ensures.steps_after
+-- so many entries are written
+front : (d : Start) → length (take (length d.args.s.now.keys.now) d.args.steps.now) ≡ length d.args.s.now.keys.now
+front d = length-take-le (length d.args.s.now.keys.now) d.args.steps.now (room d)
 
 -- the array of the time vector has a place for each loop
-time-long : (d : Start) → length d.args.s.time ≡ max_depth
-time-long d = search rules
+few : (c : After-depth) → c.depth.result ≤ 4
+few c = omega (arith, c.depth.ensures, (depth_is c.args.s.now.nest.now.nest c.args.s.now.nest.now.accepted).1)
+
+fits : (c : After-depth) → c.depth.result ≤ length c.args.s.now.nest.now.nest.time
+fits c = let l : length c.args.s.now.nest.now.nest.time ≡ max_depth = search rules in omega (arith, few c, l)
+
+pub slice_bounds-points-end : goal.slice_bounds-points-end
+slice_bounds-points-end c = sym (length-take-le c.depth.result c.args.s.now.nest.now.nest.time (fits (goal.at.slice_bounds-points-end c).After-depth))
+
+pub slice_bounds-table-end : goal.slice_bounds-table-end
+slice_bounds-table-end c = room (goal.at.slice_bounds-table-end c).Start
+
+pub slice_bounds-table-end-2 : goal.slice_bounds-table-end-2
+slice_bounds-table-end-2 c = sym (front (goal.at.slice_bounds-table-end-2 c).Start)
+
+pub invariant_of-points : goal.invariant_of-points
+invariant_of-points c =
+    let s = c.args.s.now.nest.now.nest in
+    record { timed = front_timed s c.args.s.now.nest.now.accepted c.depth.result c.args.s.now.keys.now c.depth.ensures (fits (goal.at.invariant_of-points c).After-depth) c.args.s.now.keyed }
 
 pub products_into-least-requires : goal.products_into-least-requires
 products_into-least-requires c =
-    let at_start = (goal.at.products_into-least-requires c).Start in
-    let s = c.args.s in
-    let T = nest_timed s c.requires.0 in
-    let n = depth (goal.at.products_into-least-requires c).After-to_size-n in
-    let m = keys-many at_start in (
-      subst (λ i. Timed s.time i c.args.keys.now) (sym n) (subst (Timed s.time (depth_of s)) (sym c.requires.1) T),
-      omega (arith, n, T.few_loops, time-long at_start),
-      omega (arith, m, some-points s c.requires.0),
-      omega (arith, m, c.requires.2),
-    )
+    let d = (goal.at.products_into-least-requires c).Start in
+    (omega (arith, keys-many d, some-points c.args.s.now.nest.now.nest c.args.s.now.nest.now.accepted), front d)
+
+-- each P·j, raised, and the least
+all-products : (c : After-products_into-least) → c.products_into-least.new.steps ≡ map raised (products c.args.s.now.nest.now.nest c.args.s.now.nest.now.accepted)
+all-products c =
+    let s = c.args.s.now.nest.now.nest in
+    c.products_into-least.ensures.steps_after
+    ∙ ap (map raised) (products-front s c.args.s.now.nest.now.accepted c.depth.result c.args.s.now.keys.now c.depth.ensures (fits (goal.at.After-products_into-least c).After-depth) c.args.s.now.keyed _ (front (goal.at.After-products_into-least c).Start))
+
+least : (c : After-products_into-least) → reads c.products_into-least.result ≡ least_z (products c.args.s.now.nest.now.nest c.args.s.now.nest.now.accepted)
+least c =
+    let s = c.args.s.now.nest.now.nest in
+    told c.products_into-least.result c.products_into-least.type_inv ∙ c.products_into-least.ensures.value
+    ∙ ap least_z (products-front s c.args.s.now.nest.now.accepted c.depth.result c.args.s.now.keys.now c.depth.ensures (fits (goal.at.After-products_into-least c).After-depth) c.args.s.now.keyed _ (front (goal.at.After-products_into-least c).Start))
 
 pub raised-requires : goal.raised-requires
 raised-requires c =
-    let at_products_into = (goal.at.raised-requires c).After-products_into-least in
-    least-small c.args.s c.requires.0 c.args.keys.now c.args.steps.now (table at_products_into) (least at_products_into) (made at_products_into)
+    subst (λ (z : ℤ). nat_abs z ≤ max_product) (sym (least (goal.at.raised-requires c).After-products_into-least)) (least-small c.args.s.now.nest.now.nest c.args.s.now.nest.now.accepted)
+
+least_raised : (c : After-raised) → c.raised.result ≡ raised (least_z (products c.args.s.now.nest.now.nest c.args.s.now.nest.now.accepted))
+least_raised c = c.raised.ensures ∙ ap raised (least (goal.at.After-raised c).After-products_into-least)
 
 pub elapsed_from-range-requires : goal.elapsed_from-range-requires
 elapsed_from-range-requires c =
-    let at_products_into = (goal.at.elapsed_from-range-requires c).After-products_into-least in (
-      (made at_products_into).size,
-      subst (λ (z : ℕ). (k : ℕ) → k < length c.args.keys.now → (z ≤ get_or (table at_products_into) k 0) × (get_or (table at_products_into) k 0 ≤ 2 * max_product)) (sym c.raised.ensures)
-          (raised-few c.args.s c.requires.0 c.args.keys.now c.args.steps.now (table at_products_into) (least at_products_into) (made at_products_into)),
-    )
+    subst₂ (λ (t : List ℕ) (x : ℕ). (k : ℕ) → k < length t → (x ≤ get_or t k 0) × (get_or t k 0 ≤ 2 * max_product)) (sym (all-products (goal.at.elapsed_from-range-requires c).After-products_into-least)) (sym (least_raised c))
+    (raised-few c.args.s.now.nest.now.nest c.args.s.now.nest.now.accepted)
 
-abbrev elapsed : After-elapsed_from-range → List ℕ
-elapsed c = c.elapsed_from-range.new.steps
+-- each less the least, and how many values there are
+all-elapsed : (c : After-elapsed_from-range) → map (λ x. x - c.raised.result) c.products_into-least.new.steps ≡ elapsed_of c.args.s.now.nest.now.nest
+all-elapsed c =
+    ap₂ (λ (t : List ℕ) (y : ℕ). map (λ x. x - y) t) (all-products (goal.at.After-elapsed_from-range c).After-products_into-least) (least_raised (goal.at.After-elapsed_from-range c).After-raised)
+    ∙ elapsed_are c.args.s.now.nest.now.nest c.args.s.now.nest.now.accepted
 
--- entry k less the least
-abbrev less : After-elapsed_from-range → ℕ → ℕ → ℕ
-less c z k = get_or (table (goal.at.After-elapsed_from-range c).After-products_into-least) k 0 - z
+table_is : (c : After-elapsed_from-range) → c.elapsed_from-range.new.steps ≡ elapsed_of c.args.s.now.nest.now.nest
+table_is c = c.elapsed_from-range.ensures.steps_after ∙ all-elapsed c
 
-abbrev many : After-elapsed_from-range → ℕ
-many c = length c.args.keys.now
-
-range_is : (c : After-elapsed_from-range) → c.elapsed_from-range.result ≡ greatest (tab (less c (raised (least (goal.at.After-elapsed_from-range c).After-products_into-least))) (many c)) + 1
-range_is c = c.elapsed_from-range.ensures.value ∙ ap (λ (z : ℕ). greatest (tab (less c z) (many c)) + 1) c.raised.ensures
-
-table_is : (c : After-elapsed_from-range) → elapsed c ≡ tab (less c (raised (least (goal.at.After-elapsed_from-range c).After-products_into-least))) (many c) ++ drop (many c) (table (goal.at.After-elapsed_from-range c).After-products_into-least)
-table_is c = c.elapsed_from-range.ensures.steps_after ∙ ap (λ (z : ℕ). tab (less c z) (many c) ++ drop (many c) (table (goal.at.After-elapsed_from-range c).After-products_into-least)) c.raised.ensures
+range_is : (c : After-elapsed_from-range) → c.elapsed_from-range.result ≡ greatest (elapsed_of c.args.s.now.nest.now.nest) + 1
+range_is c = c.elapsed_from-range.ensures.value ∙ ap (λ (t : List ℕ). greatest t + 1) (all-elapsed c)
 
 pub ordinals_into-requires : goal.ordinals_into-requires
 ordinals_into-requires c =
-    let at_products_into = (goal.at.ordinals_into-requires c).After-products_into-least in
-    let at_elapsed_from = (goal.at.ordinals_into-requires c).After-elapsed_from-range in (
-      elapsed-counted c.args.s c.requires.0 c.args.keys.now c.args.steps.now (table at_products_into) (least at_products_into) (made at_products_into) (elapsed at_elapsed_from) c.elapsed_from-range.result (range_is at_elapsed_from) (table_is at_elapsed_from),
-      range_most c.args.s c.requires.0 c.args.keys.now c.args.steps.now (table at_products_into) (least at_products_into) (made at_products_into) (elapsed at_elapsed_from) c.elapsed_from-range.result (range_is at_elapsed_from) (table_is at_elapsed_from),
-    )
+    let d = (goal.at.ordinals_into-requires c).After-elapsed_from-range in
+    let s = c.args.s.now.nest.now.nest in
+    let r = c.elapsed_from-range.result in
+    (subst (λ (t : List ℕ). Counted t r) (sym (table_is d)) (elapsed-counted s c.args.s.now.nest.now.accepted r (range_is d)), range_most s c.args.s.now.nest.now.accepted r (range_is d))
 
-pub returns : goal.returns
-returns c =
-    let at_products_into = (goal.at.returns c).After-products_into-least in
-    let at_elapsed_from = (goal.at.returns c).After-elapsed_from-range in
-    let y = c.ordinals_into in
-    let both = steps-made c.args.s c.requires.0 c.args.keys.now c.args.steps.now (table at_products_into) (least at_products_into) (made at_products_into) (elapsed at_elapsed_from) c.elapsed_from-range.result (range_is at_elapsed_from) (table_is at_elapsed_from) y.new.numbers y.result y.ensures.value y.ensures.numbers_after in
-    record { value = both.0; steps_after = both.1 }
+pub returns-clause-value : goal.returns-clause-value
+returns-clause-value c =
+    let d = (goal.at.returns-clause-value c).After-elapsed_from-range in
+    let r = c.elapsed_from-range.result in
+    c.ordinals_into.ensures.value ∙ ap (λ (t : List ℕ). standing t r) (table_is d) ∙ number_made c.args.s.now.nest.now.nest c.args.s.now.nest.now.accepted r (range_is d)
+
+pub returns-clause-steps_after : goal.returns-clause-steps_after
+returns-clause-steps_after c =
+    let s = c.args.s.now.nest.now.nest in
+    let made : c.ordinals_into.new.numbers ≡ steps_of s = c.ordinals_into.ensures.numbers_after ∙ ap ordinals (table_is (goal.at.returns-clause-steps_after c).After-elapsed_from-range) ∙ steps-made s c.args.s.now.nest.now.accepted in
+    ap₂ (λ (t : List ℕ) (n : ℕ). t ++ drop n c.args.steps.now) made (keys-many (goal.at.returns-clause-steps_after c).Start)

@@ -32,7 +32,7 @@ unfolding tab
 put_line-requires c =
     let at_start = (goal.at.put_line-requires c).Start in
     let xs = c.args.counts in
-    (omega arith, (omega arith, counts_fit xs 5 (five at_start) c.requires.1 (held xs 5 (five at_start) c.requires.1)))
+    (omega arith, counts_fit xs 5 (five at_start) c.requires.1 (held xs 5 (five at_start) c.requires.1))
 
 pub returns : goal.returns
 unfolding tab

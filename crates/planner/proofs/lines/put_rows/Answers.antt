@@ -2,6 +2,7 @@
 use mathlib.Core.Path.{◌≡◌, refl, subst}
 use mathlib.Core.List.{flat_map}
 use Prim.Native.Nat.{ℕ}
+use lib.ListN.{length}
 use native.Mathlib.Omega.{arith}
 use Rattle.integers.specs.Lists.{tab}
 use Rattle.nest_text.specs.Text.{line}
@@ -64,5 +65,5 @@ pub returns : goal.returns
 returns c =
     let a = c.args in
     let l = c.loop-k in
-    let e : l.k ≡ a.iterations = omega arith in
+    let e : l.k ≡ length a.steps.now = omega (arith, c.loop-k-test.false) in
     subst (λ (j : ℕ). Stored a.out.now a.at (flat_map line (tab (row_of a.steps.now a.blocks.now a.processors.now a.values.now) j)) l.out l.end) e l.invariant.1.1.1

@@ -11,7 +11,7 @@ use Rattle.planner.proofs.lines.put_rows.Given as goal
 
 abbrev pub invariant-loop-k : goal.invariant-loop-k
 invariant-loop-k l =
-    (l.k ≤ l.iterations) × ((l.end ≡ l.at + 31 * l.k) × ((length l.out ≡ length l.initial.out) × Stored l.initial.out l.at (flat_map line (tab (row_of l.steps l.blocks l.processors l.values) l.k)) l.out l.end))
+    (l.k ≤ length l.steps) × ((l.end ≡ l.at + 31 * l.k) × ((length l.out ≡ length l.initial.out) × Stored l.initial.out l.at (flat_map line (tab (row_of l.steps l.blocks l.processors l.values) l.k)) l.out l.end))
 
 abbrev pub decreases-loop-k : goal.decreases-loop-k
-decreases-loop-k l = l.iterations - l.k
+decreases-loop-k l = length l.steps - l.k

@@ -1,0 +1,17 @@
+// The vectors that are chosen for a time vector P, with those that give coordinates along them.
+ghost use Rattle.grouping.specs.Framed.{FramedIn, FramedIn-prop};
+
+use crate::MAX_CHOSEN;
+use numbering::Row;
+
+// What does not depend on the iteration: P and three more vectors of a basis, the first `count` of
+// them the chosen ones, and the vectors that give coordinates in it (specs/Framed.antt).
+#[derive(Clone, Copy)]
+pub struct Basis {
+    pub p: Row,
+    pub vectors: [Row; MAX_CHOSEN],
+    pub duals: [Row; MAX_CHOSEN],
+    pub d: i64,
+    pub count: usize,
+    ghost framed: { FramedIn p count vectors duals d } by { FramedIn-prop p count vectors duals d },
+}

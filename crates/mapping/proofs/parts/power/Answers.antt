@@ -1,9 +1,0 @@
--- `power` meets its contract: 1 shifted left stays in range. Assumes nothing.
-use mathlib.Core.Path.{◌∙◌}
-use native.Mathlib.Nat.{one-mul}
-use native.Mathlib.Omega.{arith}
-use lib.Pow.{shl_exact}
-use Rattle.mapping.proofs.parts.power.Goals as goal
-
-pub returns : goal.returns
-returns c = shl_exact {a = 1} 1 c.args.e 64 (omega arith) (omega (arith, c.requires)) ∙ one-mul _
