@@ -2,7 +2,7 @@
 ghost use Rattle.std.specs.Prelude.{◌≡◌, ◌+◌, ◌≤◌, ◌<◌, length, IfOk};
 ghost use Rattle.std.proofs.lemmas.List.Edits.{sets};
 ghost use Rattle.nest.specs.Nest.{count_of};
-ghost use Rattle.nest.specs.NestParts.{nest_of};
+ghost use Rattle.nest.specs.NestParts.{nest_of_parts};
 ghost use Rattle.nest.specs.Outcomes.{number_in};
 ghost use Rattle.nest.specs.Points.{points_of};
 ghost use Rattle.nest.specs.Refusals.{refusal};
@@ -71,7 +71,7 @@ pub fn numbers_of(s: LoopNest) -> [i64; NUMBERS]
 
 // The nest that 63 numbers are, lent in its parts, which stay where they are.
 fn parts_in<'a>(numbers: &'a [i64; NUMBERS]) -> NestParts<'a>
-    ensures { nest_of result ≡ nest_in numbers.now }
+    ensures { nest_of_parts result ≡ nest_in numbers.now }
 {
     NestParts {
         depth: numbers[0],
@@ -133,8 +133,8 @@ impl AcceptedNumbers<'_> {
         ensures { option_in result ≡ source_rank (nest_in self.now.numbers.now) k i }
     {
         let nest = parts_in(self.numbers);
-        let n = nest::to_size(nest.depth);
-        let dependence = nest::dependence_at(nest.dependences, n, i);
-        nest::source_rank(&nest.lower[..n], &nest.upper[..n], dependence, k)
+        let loops = nest.loops();
+        let dependence = nest::dependence_at(nest.dependences, loops.lower.len(), i);
+        loops.source_rank(dependence, k)
     }
 }

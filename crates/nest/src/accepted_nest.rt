@@ -1,12 +1,11 @@
 // A nest that is known to be accepted.
 ghost use Rattle.std.specs.Prelude.{◌≡◌, true, ◌<◌, [], length, get_or};
-ghost use Rattle.nest.specs.Nest.{depth_of, count_of, to_ℕ, part, padded, max_depth};
+ghost use Rattle.nest.specs.Nest.{depth_of, count_of, limits_in, limits_of, to_ℕ, part, padded, max_depth};
 ghost use Rattle.nest.specs.Points.{points_of, place_of, is_point, source};
 ghost use Rattle.nest.specs.Refusals.{refusal, dependence};
 
-use crate::points::{point_within, rank_within};
 use crate::source::{dependence_at, difference};
-use crate::{LoopNest, to_size};
+use crate::{LoopNest, Loops, to_size};
 
 // An accepted nest, and how many iterations it has.
 #[derive(Clone, Copy)]
@@ -39,21 +38,27 @@ impl AcceptedNest {
         to_size(self.nest.cube)
     }
 
+    // Its loops.
+    fn loops<'a>(&'a self) -> Loops<'a>
+        ensures depth { length result.lower.now ≡ depth_of self.now.nest }
+        ensures limits { limits_in result.lower.now result.upper.now ≡ limits_of self.now.nest }
+    {
+        self.nest.parts().loops()
+    }
+
     // The index point of a rank, with 0 in the places behind the depth.
     pub fn point_of(&self, rank: usize) -> [i64; LoopNest::MAX_DEPTH]
         requires { rank < length (points_of self.now.nest) }
         ensures { result ≡ padded max_depth (get_or (points_of self.now.nest) rank []) }
     {
-        let n = self.depth();
-        point_within(&self.nest.lower[..n], &self.nest.upper[..n], rank as u64)
+        self.loops().point_at(rank)
     }
 
     // The rank of a point; none where it is none of the index points.
     pub fn rank_of(&self, point: [i64; LoopNest::MAX_DEPTH]) -> Option<usize>
         ensures { result ≡ place_of (points_of self.now.nest) (part point 0 (depth_of self.now.nest)) }
     {
-        let n = self.depth();
-        rank_within(&self.nest.lower[..n], &self.nest.upper[..n], &point[..n])
+        self.loops().rank_of(&point[..self.depth()])
     }
 
     // The source of an index point along dependence i, with 0 in the places behind the depth.

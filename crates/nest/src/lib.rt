@@ -5,6 +5,7 @@
 mod accepted_nest;
 mod faults;
 mod lent;
+mod loops;
 mod points;
 mod refusals;
 mod source;
@@ -13,16 +14,17 @@ ghost use Rattle.std.specs.Prelude.{◌≡◌, pos};
 ghost use Rattle.nest.specs.Nest.{empty_nest, with_shape, with_limits, with_time, with_dependence, with_boundary};
 ghost use Rattle.nest.specs.Nest.{with_every_boundary, with_weight, to_ℕ, max_depth, max_dependences, max_cube};
 ghost use Rattle.nest.specs.Nest.{max_limit, max_iterations, max_component, max_boundary, max_weight};
-ghost use Rattle.nest.specs.NestParts.{nest_of};
+ghost use Rattle.nest.specs.NestParts.{nest_of_parts};
 
 pub use crate::accepted_nest::AcceptedNest;
 pub use crate::faults::{inner_product, is_outside};
 pub use crate::lent::NestParts;
+pub use crate::loops::Loops;
 pub use crate::points::{distance, extent_of};
 pub use crate::refusals::{
     Refusal, accept, check, check_header, check_parts, check_room, inspect, inspect_parts,
 };
-pub use crate::source::{dependence_at, source_rank};
+pub use crate::source::dependence_at;
 
 // A loop nest. Every field may hold any number; `check` says whether the nest is accepted. Of each
 // array the first `depth` or `count` places are part of the nest, and the others are ignored.
@@ -89,7 +91,7 @@ impl LoopNest {
 
     // The nest in its parts.
     pub fn parts<'a>(&'a self) -> NestParts<'a>
-        ensures { nest_of result ≡ self.now }
+        ensures { nest_of_parts result ≡ self.now }
     {
         NestParts {
             depth: self.depth,

@@ -2,7 +2,7 @@
 ghost use Rattle.std.specs.Prelude.{◌≡◌, ◌*◌, ◌≤◌, pos, [], length, IfOk};
 ghost use Rattle.nest.specs.Nest.{nest_from, max_depth};
 ghost use Rattle.nest.specs.Outcomes.{code, number_in};
-ghost use Rattle.nest.specs.NestParts.{nest_of};
+ghost use Rattle.nest.specs.NestParts.{nest_of_parts};
 ghost use Rattle.nest.specs.Refusals.{refusal, first_met, header_order, limit_order, vector_order, weight_order};
 ghost use Rattle.nest.specs.Refusals.{room_refusal, Checks, Inspects, inspection_of};
 
@@ -10,8 +10,7 @@ use crate::faults::{
     any_against, any_backward, any_crossed, any_equal, any_out_of_span, any_outside,
     is_out_of_span, is_outside, rows_of,
 };
-use crate::points::point_count;
-use crate::{AcceptedNest, LoopNest, NestParts, to_size};
+use crate::{AcceptedNest, LoopNest, Loops, NestParts, to_size};
 
 // Why a call is refused: the words from the rack, each with its number in the document. 12 is not
 // used: a time vector that is zero has P·d below 1 for every dependence, which is 11.
@@ -86,10 +85,13 @@ fn check_limits(lower: &[i64], upper: &[i64], n: usize) -> Result<(), Refusal>
     ensures { number_in result ≡ first_met
         (nest_from (pos n) (pos 0) (pos 0) lower.now upper.now [] [] [] []) limit_order }
 {
-    if any_crossed(&lower[..n], &upper[..n]) {
+    let lower = &lower[..n];
+    let upper = &upper[..n];
+    if any_crossed(lower, upper) {
         return Err(Refusal::BadLimits);
     }
-    if (LoopNest::MAX_ITERATIONS as u64) < point_count(&lower[..n], &upper[..n]) {
+    let loops = Loops { lower, upper };
+    if (LoopNest::MAX_ITERATIONS as u64) < loops.point_count() {
         return Err(Refusal::TooManyPoints);
     }
     Ok(())
@@ -138,7 +140,7 @@ fn check_weights(boundaries: &[i64], weights: &[i64], m: usize) -> Result<(), Re
 
 // `check`, of a nest that is lent in its parts.
 pub fn check_parts(s: &NestParts) -> Result<(), Refusal>
-    ensures { number_in result ≡ refusal (nest_of s.now) }
+    ensures { number_in result ≡ refusal (nest_of_parts s.now) }
 {
     check_header(s.depth, s.count, s.cube)?;
     let n = to_size(s.depth);
@@ -157,11 +159,10 @@ pub fn check(s: LoopNest) -> Result<(), Refusal>
 
 // `inspect`, of a nest that is lent in its parts.
 pub fn inspect_parts(s: &NestParts) -> Result<usize, Refusal>
-    ensures { Inspects (nest_of s.now) (inspection_of result) }
+    ensures { Inspects (nest_of_parts s.now) (inspection_of result) }
 {
     check_parts(s)?;
-    let n = to_size(s.depth);
-    Ok(point_count(&s.lower[..n], &s.upper[..n]) as usize)
+    Ok(s.loops().point_count() as usize)
 }
 
 // The number of iterations of a nest, or its first refusal, 2 to 13.

@@ -1,14 +1,11 @@
 // The source of an iteration along a dependence: the point, and its rank.
-ghost use Rattle.std.specs.Prelude.{◌≡◌, true, false, ℕ, ◌+◌, ◌*◌, ◌<◌, ◌≤◌, pos, nat_abs, [], length, get_or};
-ghost use Rattle.integers.specs.Lists.{any};
-ghost use Rattle.nest.specs.Nest.{padded, part, depth_of, count_of, limits_in, dependence_at, max_depth, max_limit};
-ghost use Rattle.nest.specs.Nest.{max_iterations, max_component};
-ghost use Rattle.nest.specs.Points.{points, points_of, point_count, place_of, is_point, source};
-ghost use Rattle.nest.specs.Refusals.{crossed, refusal, dependence};
+ghost use Rattle.std.specs.Prelude.{◌≡◌, ℕ, ◌+◌, ◌*◌, ◌<◌, ◌≤◌, pos, nat_abs, [], length, get_or};
+ghost use Rattle.nest.specs.Nest.{padded, limits_in, dependence_at, max_depth, max_limit, max_iterations, max_component};
+ghost use Rattle.nest.specs.Points.{points, point_count, place_of, source};
 
-use crate::LoopNest;
 use crate::faults::is_outside;
 use crate::points::{distance, extent_of, index_at};
+use crate::{LoopNest, Loops};
 
 // The components of dependence i, of n components, in the array of the dependences.
 pub fn dependence_at(dependences: &[i64], n: usize, i: usize) -> &[i64]
@@ -33,40 +30,36 @@ pub fn difference(point: &[i64], dependence: &[i64]) -> [i64; LoopNest::MAX_DEPT
     source
 }
 
-// The rank of the source of an iteration along a dependence, of some loops; none where the source
-// is none of their index points. From the innermost loop outward, each index is what the extent of
-// its loop leaves of the iteration's rank.
-pub fn source_rank(
-    lower: &[i64],
-    upper: &[i64],
-    dependence: &[i64],
-    iteration: usize,
-) -> Option<usize>
-    requires lengths { (length lower.now ≤ max_depth) × (length upper.now ≡ length lower.now)
-        × (length dependence.now ≡ length lower.now) }
-    requires limits { (any crossed (limits_in lower.now upper.now) ≡ false)
-        × (point_count (limits_in lower.now upper.now) ≤ max_iterations)
-        × (iteration < point_count (limits_in lower.now upper.now)) }
-    requires by_index { (k : ℕ) → k < length dependence.now
-        → nat_abs (get_or dependence.now k (pos 0)) ≤ max_component }
-    ensures { result ≡ place_of (points (limits_in lower.now upper.now))
-        (source (get_or (points (limits_in lower.now upper.now)) iteration []) dependence.now) }
-{
-    let mut rest = iteration as u64;
-    let mut stride: u64 = 1;
-    let mut at: u64 = 0;
-    // Kept: k goes down through three arrays, and a `rev` on each behind a `zip` is no plainer.
-    for k in (0..lower.len()).rev() {
-        let low = lower[k];
-        let high = upper[k];
-        let extent = extent_of(low, high);
-        let index = index_at(low, rest % extent) - dependence[k];
-        if is_outside(low, high, index) {
-            return None;
+impl Loops<'_> {
+    // The rank of the source of an iteration along a dependence; none where the source is none of
+    // the index points. From the innermost loop outward, each index is what the extent of its loop
+    // leaves of the iteration's rank.
+    pub fn source_rank(&self, dependence: &[i64], iteration: usize) -> Option<usize>
+        requires lengths { length dependence.now ≡ length self.now.lower.now }
+        requires limits { (point_count (limits_in self.now.lower.now self.now.upper.now) ≤ max_iterations)
+            × (iteration < point_count (limits_in self.now.lower.now self.now.upper.now)) }
+        requires by_index { (k : ℕ) → k < length dependence.now
+            → nat_abs (get_or dependence.now k (pos 0)) ≤ max_component }
+        ensures { result ≡ place_of (points (limits_in self.now.lower.now self.now.upper.now))
+            (source (get_or (points (limits_in self.now.lower.now self.now.upper.now)) iteration [])
+            dependence.now) }
+    {
+        let mut rest = iteration as u64;
+        let mut stride: u64 = 1;
+        let mut at: u64 = 0;
+        // Kept: k goes down through three arrays, and a `rev` on each behind a `zip` is no plainer.
+        for k in (0..self.lower.len()).rev() {
+            let low = self.lower[k];
+            let high = self.upper[k];
+            let extent = extent_of(low, high);
+            let index = index_at(low, rest % extent) - dependence[k];
+            if is_outside(low, high, index) {
+                return None;
+            }
+            at += distance(low, index) * stride;
+            stride *= extent;
+            rest /= extent;
         }
-        at += distance(low, index) * stride;
-        stride *= extent;
-        rest /= extent;
+        Some(at as usize)
     }
-    Some(at as usize)
 }

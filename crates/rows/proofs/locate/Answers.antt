@@ -3,7 +3,7 @@ use mathlib.Core.Path.{◌≡◌, sym, ap, ap₂, ◌∙◌}
 use mathlib.Core.Bool.{false}
 use Prim.Native.Nat.{◌+◌, ◌*◌, ◌/◌, ◌≤◌}
 use native.Mathlib.Omega.{arith}
-use lib.IntN.{ℤ, nat_abs, ◌-ℤ◌}
+use lib.IntN.{ℤ, ◌-ℤ◌}
 use lib.ListN.{length}
 use Rattle.std.proofs.Common.{rules}
 use Rattle.integers.proofs.Machine.{reads}
@@ -16,7 +16,6 @@ use Rattle.nest.proofs.Outcomes.{code-above, refused-above}
 use Rattle.nest.proofs.Entries.{one-room, short_number, enough}
 use Rattle.nest.proofs.PointLaws.{few-points}
 use Rattle.nest.proofs.Counted.{extent-distance, extent-within}
-use Rattle.integers.proofs.Linear.{ints, sizes}
 use Rattle.nest.proofs.Conditions.{Uncrossed, uncrossed, in_span}
 use Rattle.rows.specs.Rows.{Span, row_start, row_length}
 use Rattle.rows.proofs.RowLaws.{start-at, length_at, width_is, row_fits}
@@ -89,7 +88,7 @@ returns-then-is_outside c =
 pub distance-requires : goal.distance-requires
 distance-requires c =
     let l = limits (goal.at.distance-requires c).After-is_outside in
-    rw (lowest (goal.at.distance-requires c).After-is_outside, highest (goal.at.distance-requires c).After-is_outside) (l.lower_size, l.upper_size, l.order)
+    rw (lowest (goal.at.distance-requires c).After-is_outside, highest (goal.at.distance-requires c).After-is_outside) l.order
 
 pub overflow_add-length : goal.overflow_add-length
 overflow_add-length c =
@@ -100,11 +99,9 @@ overflow_add-length c =
 
 pub distance-place-requires : goal.distance-place-requires
 distance-place-requires c =
-    let l = limits (goal.at.distance-place-requires c).After-is_outside in
     let a = c.args in
     let w = in_span (limit a.s 0).lower (limit a.s 0).upper a.index (there (goal.at.distance-place-requires c).Else-is_outside) in
-    let size : nat_abs a.index ≤ 1000 = omega (ints, w.0, w.1, l.lower_size, l.upper_size, sizes a.index, sizes (limit a.s 0).lower, sizes (limit a.s 0).upper) in
-    rw (lowest (goal.at.distance-place-requires c).After-is_outside, index (goal.at.distance-place-requires c).After-is_outside) (l.lower_size, size, w.0)
+    rw (lowest (goal.at.distance-place-requires c).After-is_outside, index (goal.at.distance-place-requires c).After-is_outside) w.0
 
 pub overflow_mul-result : goal.overflow_mul-result
 overflow_mul-result c =

@@ -19,9 +19,7 @@ gives : (c : After-distance) → c.distance.result ≡ to_ℕ (c.args.upper -ℤ
 gives c = rw (to_z-of_z c.ranges.lower, to_z-of_z c.ranges.upper) at c.distance.ensures
 
 pub distance-requires : goal.distance-requires
-distance-requires c =
-    let h = limits c in
-    rw (to_z-of_z c.ranges.lower, to_z-of_z c.ranges.upper) (h.lower_size, h.upper_size, h.order)
+distance-requires c = rw (to_z-of_z c.ranges.lower, to_z-of_z c.ranges.upper) (limits c).order
 
 pub overflow_add-result : goal.overflow_add-result
 overflow_add-result c =

@@ -27,7 +27,7 @@ crossed_test : (c : After-any_crossed) → holds (nest c.before) bad_limits ≡ 
 unfolding holds limits_of to_ℕ
 crossed_test c = sym (first_crossed c)
 
-count_test : (c : After-point_count) → holds (nest c.before.before.before) too_many_points ≡ ltb max_iterations c.point_count.result
+count_test : (c : After-point_count) → holds (nest (goal.at.After-point_count c).Start) too_many_points ≡ ltb max_iterations c.point_count.result
 unfolding holds limits_of to_ℕ
 count_test c = ap (ltb max_iterations) (sym (c.point_count.ensures ∙ ap point_count (limits-first c.args.lower.now c.args.upper.now c.args.n c.requires.1)))
 
@@ -39,24 +39,27 @@ pub returns-then-any_crossed : goal.returns-then-any_crossed
 unfolding number
 returns-then-any_crossed c = sym (met (nest c.before.before) bad_limits (too_many_points ∷ []) (crossed_test c.before ∙ c.if-any_crossed.true))
 
-pub point_count-requires : goal.point_count-requires
-point_count-requires c =
+pub invariant_of-loops : goal.invariant_of-loops
+invariant_of-loops c =
     let a = c.args in
     let p = c.requires in
     let l = length-take-le a.n a.lower.now p.1 in
     let u = length-take-le a.n a.upper.now p.2 in
-    (rw l p.0, u ∙ sym l, ap (any crossed) (limits-first a.lower.now a.upper.now a.n p.1) ∙ sym (first_crossed c.before) ∙ c.if-any_crossed.false)
+    record {
+      lengths = (rw l p.0, u ∙ sym l);
+      limits = ap (any crossed) (limits-first a.lower.now a.upper.now a.n p.1) ∙ sym (first_crossed c.before) ∙ c.if-any_crossed.false;
+    }
 
 pub returns-then-point_count : goal.returns-then-point_count
 unfolding number
 returns-then-point_count c =
     sym
-    (limits-passed c.before.before
-    ∙ met (nest c.before.before.before.before) too_many_points [] (count_test c.before ∙ lt-ltb max_iterations c.point_count.result c.if-point_count.true))
+    (limits-passed (goal.at.returns-then-point_count c).Else-any_crossed
+    ∙ met (nest (goal.at.returns-then-point_count c).Start) too_many_points [] (count_test c.before ∙ lt-ltb max_iterations c.point_count.result c.if-point_count.true))
 
 pub returns : goal.returns
 unfolding first_met
 returns c =
     sym
-    (limits-passed c.before.before
-    ∙ passed (nest c.before.before.before.before) too_many_points [] (count_test c.before ∙ le-ltb max_iterations c.point_count.result c.if-point_count.false))
+    (limits-passed (goal.at.returns c).Else-any_crossed
+    ∙ passed (nest (goal.at.returns c).Start) too_many_points [] (count_test c.before ∙ le-ltb max_iterations c.point_count.result c.if-point_count.false))

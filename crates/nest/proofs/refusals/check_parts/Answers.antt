@@ -5,7 +5,7 @@ use mathlib.Core.Path.{sym, ◌∙◌, ap}
 use Rattle.integers.proofs.Machine.{reads}
 use Rattle.nest.specs.declared.LoopNest.{LoopNest}
 use Rattle.nest.specs.Nest.{to_ℕ, depth_of, count_of, max_depth, max_dependences}
-use Rattle.nest.specs.NestParts.{nest_of}
+use Rattle.nest.specs.NestParts.{nest_of_parts}
 use Rattle.nest.specs.Outcomes.{number_in}
 use Rattle.nest.specs.Refusals.{first_met, header_order, limit_order, vector_order, weight_order}
 use Rattle.nest.proofs.Outcomes.{number_out, refused-above}
@@ -16,7 +16,7 @@ use Rattle.nest.proofs.refusals.check_parts.Goals.{After-check_header, After-che
 
 -- the nest that has these parts
 abbrev nest : Start → LoopNest
-nest c = nest_of c.args.s.now
+nest c = nest_of_parts c.args.s.now
 
 -- its header's numbers are what the machine reads
 depth_reads : (c : After-check_header) → reads c.args.s.now.depth ≡ c.args.s.now.depth
@@ -38,7 +38,7 @@ count_is c = c.to_size-m.ensures ∙ ap to_ℕ (count_reads (goal.at.After-to_si
 -- what each part answers
 header_is : (c : After-check_header) → number_in c.check_header.result ≡ first_met (nest (goal.at.After-check_header c).Start) header_order
 header_is c =
-    (rw (depth_reads c, count_reads c, cube_reads c) at c.check_header.ensures) ∙ header-parts (nest_of c.args.s.now)
+    (rw (depth_reads c, count_reads c, cube_reads c) at c.check_header.ensures) ∙ header-parts (nest_of_parts c.args.s.now)
 
 limits-is : (c : After-check_limits) → number_in c.check_limits.result ≡ first_met (nest (goal.at.After-check_limits c).Start) limit_order
 limits-is c =
@@ -56,20 +56,20 @@ weights-is c =
     c.check_weights.ensures ∙ weight-parts (nest (goal.at.After-check_weights c).Start) c.to_size-m.result (count_is m)
 
 -- the parts that are passed
-header-passed : (c : After-to_size-m) → first_met (nest_of c.args.s.now) header_order ≡ 0
+header-passed : (c : After-to_size-m) → first_met (nest_of_parts c.args.s.now) header_order ≡ 0
 header-passed c = sym (header_is (goal.at.After-to_size-m c).After-check_header) ∙ ap number_in c.in_ok-check_header.was
 
-limits-passed : (c : After-check_vectors) → first_met (nest_of c.args.s.now) limit_order ≡ 0
+limits-passed : (c : After-check_vectors) → first_met (nest_of_parts c.args.s.now) limit_order ≡ 0
 limits-passed c = sym (limits-is (goal.at.After-check_vectors c).After-check_limits) ∙ ap number_in c.in_ok-check_limits.was
 
-vectors-passed : (c : After-check_weights) → first_met (nest_of c.args.s.now) vector_order ≡ 0
+vectors-passed : (c : After-check_weights) → first_met (nest_of_parts c.args.s.now) vector_order ≡ 0
 vectors-passed c = sym (vectors_is (goal.at.After-check_weights c).After-check_vectors) ∙ ap number_in c.in_ok-check_vectors.was
 
 depth_low : (c : After-to_size-m) → c.to_size-n.result ≤ max_depth
-depth_low c = rw (depth_is c) (depth_within (nest_of c.args.s.now) (header-passed c)).1
+depth_low c = rw (depth_is c) (depth_within (nest_of_parts c.args.s.now) (header-passed c)).1
 
 count_low : (c : After-to_size-m) → c.to_size-m.result ≤ max_dependences
-count_low c = rw (count_is c) (count-within (nest_of c.args.s.now) (header-passed c)).1
+count_low c = rw (count_is c) (count-within (nest_of_parts c.args.s.now) (header-passed c)).1
 
 pub returns-in_err-check_header : goal.returns-in_err-check_header
 returns-in_err-check_header c =
@@ -77,7 +77,7 @@ returns-in_err-check_header c =
     let h = header_is (goal.at.returns-in_err-check_header c).After-check_header in
     let w = c.in_err-check_header.was in
     number_out c.from_residual.result e c.from_residual.ensures.1 ∙ sym (ap number_in w) ∙ h
-    ∙ sym (at-header (nest_of c.args.s.now) (λ z. refused-above c.check_header.result e w (h ∙ z)))
+    ∙ sym (at-header (nest_of_parts c.args.s.now) (λ z. refused-above c.check_header.result e w (h ∙ z)))
 
 pub check_limits-requires : goal.check_limits-requires
 check_limits-requires c = let d = depth_low (goal.at.check_limits-requires c).After-to_size-m in search rules
@@ -88,7 +88,7 @@ returns-in_err-check_limits c =
     let h = limits-is (goal.at.returns-in_err-check_limits c).After-check_limits in
     let w = c.in_err-check_limits.was in
     number_out c.from_residual-in_err-check_limits.result e c.from_residual-in_err-check_limits.ensures.1 ∙ sym (ap number_in w) ∙ h
-    ∙ sym (at-limits (nest_of c.args.s.now) (header-passed (goal.at.returns-in_err-check_limits c).After-to_size-m) (λ z. refused-above c.check_limits.result e w (h ∙ z)))
+    ∙ sym (at-limits (nest_of_parts c.args.s.now) (header-passed (goal.at.returns-in_err-check_limits c).After-to_size-m) (λ z. refused-above c.check_limits.result e w (h ∙ z)))
 
 pub check_vectors-requires : goal.check_vectors-requires
 check_vectors-requires c =
@@ -105,7 +105,7 @@ returns-in_err-check_vectors c =
     let h = vectors_is p.After-check_vectors in
     let w = c.in_err-check_vectors.was in
     number_out c.from_residual-in_err-check_vectors.result e c.from_residual-in_err-check_vectors.ensures.1 ∙ sym (ap number_in w) ∙ h
-    ∙ sym (at_vectors (nest_of c.args.s.now) (header-passed p.After-to_size-m) (limits-passed p.After-check_vectors) (λ z. refused-above c.check_vectors.result e w (h ∙ z)))
+    ∙ sym (at_vectors (nest_of_parts c.args.s.now) (header-passed p.After-to_size-m) (limits-passed p.After-check_vectors) (λ z. refused-above c.check_vectors.result e w (h ∙ z)))
 
 pub check_weights-requires : goal.check_weights-requires
 check_weights-requires c = let n = count_low (goal.at.check_weights-requires c).After-to_size-m in search rules
@@ -113,4 +113,4 @@ check_weights-requires c = let n = count_low (goal.at.check_weights-requires c).
 pub returns : goal.returns
 returns c =
     let p = goal.at.returns c in
-    weights-is c ∙ sym (at-weights (nest_of c.args.s.now) (header-passed p.After-to_size-m) (limits-passed p.After-check_vectors) (vectors-passed c))
+    weights-is c ∙ sym (at-weights (nest_of_parts c.args.s.now) (header-passed p.After-to_size-m) (limits-passed p.After-check_vectors) (vectors-passed c))

@@ -1,4 +1,4 @@
--- `rank_within` meets its contract. Assumes nothing.
+-- `rank_of` meets its contract. Assumes nothing.
 use mathlib.Core.Path.{◌≡◌, refl, sym, ◌∙◌, ap, ap₂, subst}
 use mathlib.Core.Bool.{true, false}
 use mathlib.Core.List.{List, [], ◌∷◌, ◌++◌}
@@ -17,12 +17,12 @@ use Rattle.integers.proofs.Machine.{reads}
 use Rattle.nest.specs.Nest.{Limit, to_ℕ, limit_at, max_depth}
 use Rattle.nest.specs.Points.{extent, points, place_of}
 use Rattle.nest.specs.Refusals.{outside, crossed}
-use Rattle.nest.proofs.Conditions.{in_span, uncrossed, index_in_span, limit_of, read-limits}
+use Rattle.nest.proofs.Conditions.{in_span, limit_of, read-limits}
 use Rattle.nest.proofs.Counted.{max_extent, extent-within}
 use Rattle.nest.proofs.Ranks.{Within, rank_with, next_fits, ranking_more, ranking_end, place_beyond}
 use Rattle.nest.proofs.Zipped.{Next, next, ended}
-use Rattle.nest.proofs.points.rank_within.Goals as goal
-use Rattle.nest.proofs.points.rank_within.Goals.{In-Some, After-is_outside, Else-is_outside, After-extent_of, After-distance, Start}
+use Rattle.nest.proofs.loops.Loops.rank_of.Goals as goal
+use Rattle.nest.proofs.loops.Loops.rank_of.Goals.{In-Some, After-is_outside, Else-is_outside, After-extent_of, After-distance, Start}
 
 -- as many numbers as there are, one by one
 whole : (point : List ℤ) (n : ℕ) → length point ≡ n → tab (λ i. get_or point i (pos 0)) n ≡ point
@@ -32,24 +32,24 @@ whole point n e = tab-list (λ i. get_or point i (pos 0)) point (pos 0) n e (λ 
 abbrev k : In-Some → ℕ
 k c = length c.loop-low.yielded
 
-low : (c : In-Some) → Next c.args.lower.now (k c) c.in-Some.low.now c.next.new.self.a.a.rest.now
-low c = next c.args.lower.now (k c) c.in-Some.low.now c.next.new.self.a.a.rest.now c.loop-low.low-iterator.a.a.rest.now c.loop-low.invariant.lower c.in-Some.ensures.steps.0.0
+low : (c : In-Some) → Next c.args.self.now.lower.now (k c) c.in-Some.low.now c.next.new.self.a.a.rest.now
+low c = next c.args.self.now.lower.now (k c) c.in-Some.low.now c.next.new.self.a.a.rest.now c.loop-low.low-iterator.a.a.rest.now c.loop-low.invariant.lower c.in-Some.ensures.steps.0.0
 
-high : (c : In-Some) → Next c.args.upper.now (k c) c.in-Some.high.now c.next.new.self.a.b.rest.now
-high c = next c.args.upper.now (k c) c.in-Some.high.now c.next.new.self.a.b.rest.now c.loop-low.low-iterator.a.b.rest.now c.loop-low.invariant.upper c.in-Some.ensures.steps.0.1
+high : (c : In-Some) → Next c.args.self.now.upper.now (k c) c.in-Some.high.now c.next.new.self.a.b.rest.now
+high c = next c.args.self.now.upper.now (k c) c.in-Some.high.now c.next.new.self.a.b.rest.now c.loop-low.low-iterator.a.b.rest.now c.loop-low.invariant.upper c.in-Some.ensures.steps.0.1
 
 index : (c : In-Some) → Next c.args.point.now (k c) c.in-Some.index.now c.next.new.self.b.rest.now
 index c = next c.args.point.now (k c) c.in-Some.index.now c.next.new.self.b.rest.now c.loop-low.low-iterator.b.rest.now c.loop-low.invariant.point c.in-Some.ensures.steps.1
 
 -- the loops, the point, the turn's loop and index
 abbrev f : In-Some → ℕ → Limit
-f c = limit_at c.args.lower.now c.args.upper.now
+f c = limit_at c.args.self.now.lower.now c.args.self.now.upper.now
 
 abbrev g : In-Some → ℕ → ℤ
 g c i = get_or c.args.point.now i (pos 0)
 
 abbrev n : In-Some → ℕ
-n c = length c.args.lower.now
+n c = length c.args.self.now.lower.now
 
 abbrev limit : In-Some → Limit
 limit c = limit_of c.in-Some.low.now c.in-Some.high.now
@@ -62,7 +62,7 @@ index_is c = (index c).here (pos 0)
 
 -- its limits are not crossed
 fine : (c : In-Some) → crossed (limit c) ≡ false
-fine c = sym (ap crossed (taken c)) ∙ any-tab-each crossed (f c) (n c) (k c) c.requires.limits (low c).below
+fine c = sym (ap crossed (taken c)) ∙ any-tab-each crossed (f c) (n c) (k c) c.args.self.now.limits (low c).below
 
 -- what the machine reads
 index-read : (c : After-is_outside) → reads c.in-Some.index.now ≡ c.in-Some.index.now
@@ -88,7 +88,7 @@ returns-then-is_outside c =
     let t = turn c.before in
     let e : outside (f t (k t)).lower (f t (k t)).upper (g t (k t)) ≡ true =
     ap₂ (λ (l : Limit) (x : ℤ). outside l.lower l.upper x) (taken t) (index_is t) ∙ sym (test c.before) ∙ c.if-is_outside.true in
-    sym (ap (place_of (points (tab (f t) (n t)))) (sym (whole c.args.point.now (n t) c.requires.lengths.2)) ∙ place_beyond (f t) (g t) (n t) (k t) (low t).below e)
+    sym (ap (place_of (points (tab (f t) (n t)))) (sym (whole c.args.point.now (n t) c.requires)) ∙ place_beyond (f t) (g t) (n t) (k t) (low t).below e)
 
 -- the same of loop and index by their number
 within_k : (c : Else-is_outside) → let t = turn c.before in Within (f t (k t)) (g t (k t))
@@ -112,7 +112,7 @@ fits : (c : Else-is_outside) → let t = turn c.before in rank_with c.loop-low.r
 fits c =
     let t = turn c.before in
     let b = (low t).below in
-    let m = c.requires.lengths.0 in
+    let m = c.args.self.now.lengths.0 in
     next_fits (f t) (g t) (n t) (k t) c.loop-low.rank c.loop-low.invariant.rank (within_k c) (extent_fits t) (omega arith)
 
 pub extent_of-requires : goal.extent_of-requires
@@ -132,9 +132,7 @@ pub distance-requires : goal.distance-requires
 distance-requires c =
     let d = inside c.before.before in
     let t = turn d.before in
-    let u = uncrossed c.in-Some.low.now c.in-Some.high.now (fine t) in
-    let w = within d in
-    rw (low-read t, index-read d.before) (u.lower_size, index_in_span c.in-Some.low.now c.in-Some.high.now c.in-Some.index.now (fine t) w.0 w.1, w.0)
+    rw (low-read t, index-read d.before) (within d).0
 
 -- the rank with loop k
 next_is : (c : After-distance)
@@ -170,13 +168,13 @@ returns c =
     let i = l.invariant in
     let k = length l.yielded in
     let it = l.low-iterator in
-    let n = c.requires.lengths in
-    let d : length a.lower.now ≤ k =
+    let n = a.self.now.lengths in
+    let d : length a.self.now.lower.now ≤ k =
     ⊎_elim
-    (λ h. ⊎_elim (λ q. ended a.lower.now k it.a.a.rest.now i.lower q.1.0) (λ q. rw n.1 at (ended a.upper.now k it.a.b.rest.now i.upper q.1.0)) h.1)
-    (λ h. rw n.2 at (ended a.point.now k it.b.rest.now i.point h.1.0))
+    (λ h. ⊎_elim (λ q. ended a.self.now.lower.now k it.a.a.rest.now i.lower q.1.0) (λ q. rw n.1 at (ended a.self.now.upper.now k it.a.b.rest.now i.upper q.1.0)) h.1)
+    (λ h. rw c.requires at (ended a.point.now k it.b.rest.now i.point h.1.0))
     c.in-None.ensures.steps in
-    let e : k ≡ length a.lower.now = omega (arith, d, i.passed) in
-    let f = limit_at a.lower.now a.upper.now in
+    let e : k ≡ length a.self.now.lower.now = omega (arith, d, i.passed) in
+    let f = limit_at a.self.now.lower.now a.self.now.upper.now in
     let g = λ (j : ℕ). get_or a.point.now j (pos 0) in
-    ranking_end f g (length a.lower.now) l.rank (rw e at i.rank) ∙ ap (place_of (points (tab f (length a.lower.now)))) (whole a.point.now (length a.lower.now) n.2)
+    ranking_end f g (length a.self.now.lower.now) l.rank (rw e at i.rank) ∙ ap (place_of (points (tab f (length a.self.now.lower.now)))) (whole a.point.now (length a.self.now.lower.now) c.requires)

@@ -1,4 +1,4 @@
--- `point_within` meets its contract. Assumes nothing.
+-- `point_at` meets its contract. Assumes nothing.
 use mathlib.Core.Path.{◌≡◌, ◌∙◌, ap, subst}
 use mathlib.Core.Bool.{false}
 use mathlib.Core.List.{[]}
@@ -18,25 +18,25 @@ use Rattle.nest.proofs.Accepted.{some-index}
 use Rattle.nest.proofs.Conditions.{uncrossed, read-limits}
 use Rattle.nest.proofs.Counted.{extent-within}
 use Rattle.nest.proofs.Ranks.{Unranked, unranked_start, unranked_more, unranked_left, unranked_end}
-use Rattle.nest.proofs.points.point_within.Goals as goal
-use Rattle.nest.proofs.points.point_within.Goals.{Start, After-extent_of-extent, After-loop-k, In-loop-k}
+use Rattle.nest.proofs.loops.Loops.point_at.Goals as goal
+use Rattle.nest.proofs.loops.Loops.point_at.Goals.{Start, After-extent_of-extent, After-loop-k, In-loop-k}
 
 -- the loops and the point that is wanted
 abbrev f : Start → ℕ → Limit
-f d = limit_at d.args.lower.now d.args.upper.now
+f d = limit_at d.args.self.now.lower.now d.args.self.now.upper.now
 
 abbrev n : Start → ℕ
-n d = length d.args.lower.now
+n d = length d.args.self.now.lower.now
 
 abbrev J : Start → Vector
-J d = get_or (points (limits_in d.args.lower.now d.args.upper.now)) d.args.rank []
+J d = get_or (points (limits_in d.args.self.now.lower.now d.args.self.now.upper.now)) d.args.rank []
 
 -- the limits of loop i are not crossed
 fine : (d : Start) (i : ℕ) → i < n d → crossed (f d i) ≡ false
-fine d i h = any-tab-each crossed (f d) (n d) i d.requires.point.0 h
+fine d i h = any-tab-each crossed (f d) (n d) i d.args.self.now.limits h
 
 pub loop-k-init : goal.loop-k-init
-loop-k-init c = (c.requires.lengths.0, NatL.le_refl (n c), unranked_start (f c) (n c) c.args.rank c.requires.lengths.1 c.requires.point.1)
+loop-k-init c = (c.requires.some, NatL.le_refl (n c), unranked_start (f c) (n c) c.args.rank c.args.self.now.lengths.0 c.requires.point)
 
 -- in the loop: the turn is that of loop j, and the state before it
 abbrev begun : In-loop-k → Start
@@ -110,7 +110,7 @@ last c =
     subst (λ k. Unranked (f s) (n s) (J s) k c.loop-k.rest c.loop-k.point) e c.loop-k.invariant.2
 
 first_fine : (s : Start) → crossed (f s 0) ≡ false
-first_fine s = fine s 0 s.requires.lengths.0
+first_fine s = fine s 0 s.requires.some
 
 first-read : (s : Start) → reads (f s 0).lower ≡ (f s 0).lower
 first-read s = ap (λ (x : Limit). x.lower) (read-limits (f s 0).lower (f s 0).upper (first_fine s))

@@ -17,29 +17,29 @@ use Rattle.nest.specs.Nest.{Limit, to_ℕ, limit_at, max_limit, max_iterations, 
 use Rattle.nest.specs.Points.{extent, points, point_count, place_of}
 use Rattle.nest.specs.Refusals.{outside, crossed}
 use Rattle.nest.proofs.Accepted.{some-index}
-use Rattle.nest.proofs.Conditions.{read-limits, in_span, uncrossed, index_in_span}
+use Rattle.nest.proofs.Conditions.{read-limits, in_span, uncrossed}
 use Rattle.nest.proofs.Counted.{extent-within}
 use Rattle.nest.proofs.Ranks.{Within, place_beyond}
 use Rattle.nest.proofs.SourceRanks.{Led, led_start, index-there, led_more, Behind, behind-start, behind_more, behind-below, behind_place, source-listed, point-long}
-use Rattle.nest.proofs.source.source_rank.Invariants.{less_at, point_at}
-use Rattle.nest.proofs.source.source_rank.Goals as goal
-use Rattle.nest.proofs.source.source_rank.Goals.{After-distance, After-extent_of-extent, After-index-1, After-is_outside, Else-is_outside, In-loop-k, Start}
+use Rattle.nest.proofs.loops.Loops.source_rank.Invariants.{less_at, point_at}
+use Rattle.nest.proofs.loops.Loops.source_rank.Goals as goal
+use Rattle.nest.proofs.loops.Loops.source_rank.Goals.{After-distance, After-extent_of-extent, After-index-1, After-is_outside, Else-is_outside, In-loop-k, Start}
 
 -- the loops, the point and the source
 abbrev f : Start → ℕ → Limit
-f s = limit_at s.args.lower.now s.args.upper.now
+f s = limit_at s.args.self.now.lower.now s.args.self.now.upper.now
 
 abbrev J : Start → Vector
-J s = point_at s.args.lower.now s.args.upper.now s.args.iteration
+J s = point_at s.args.self.now.lower.now s.args.self.now.upper.now s.args.iteration
 
 abbrev g : Start → ℕ → ℤ
 g s = less_at (J s) s.args.dependence.now
 
 abbrev n : Start → ℕ
-n s = length s.args.lower.now
+n s = length s.args.self.now.lower.now
 
 is_one : (s : Start) → s.args.iteration < point_count (tab (f s) (n s))
-is_one s = s.requires.limits.2
+is_one s = s.requires.limits.1
 
 -- in the loop: the turn is that of loop j, and the state before it
 abbrev In : Type 0
@@ -64,7 +64,7 @@ behind : (c : In) → Behind (f (start c)) (g (start c)) (n (start c)) (suc (j c
 behind c = let l = c.loop-k in subst (λ k. Behind (f (start c)) (g (start c)) (n (start c)) k l.stride l.at) (turn c) l.invariant.2
 
 fine : (c : In) → crossed (f (start c) (j c)) ≡ false
-fine c = let s = start c in any-tab-each crossed (f s) (n s) (j c) s.requires.limits.0 (below c)
+fine c = let s = start c in any-tab-each crossed (f s) (n s) (j c) s.args.self.now.limits (below c)
 
 -- where its extent is known
 abbrev Known : Type 0
@@ -138,7 +138,7 @@ abbrev β : List ℕ
 given : (c : At) → Given (μ c) (ρ c) β
 given c = (
   (told c.index_at.result c.index_at.type_inv ∙ index_is c, index-size c),
-  ((told (component c) c.index-1.given, (start (turn_at c)).requires.by_index (j (turn_at c)) (rw (start (turn_at c)).requires.lengths.2 (below (turn_at c)))), tt),
+  ((told (component c) c.index-1.given, (start (turn_at c)).requires.by_index (j (turn_at c)) (rw (start (turn_at c)).requires.lengths (below (turn_at c)))), tt),
 )
 
 less-is : (c : At) → reads (reads c.index_at.result -ℤ reads (component c)) ≡ g (start (turn_at c)) (j (turn_at c))
@@ -195,7 +195,7 @@ next_small c =
     let b =
     behind-below (f s) (g s) (n s) (j d) (l.stride * (known (at_of c)).extent_of-extent.result) (l.at + c.distance.result * l.stride) (next_behind c) (omega (arith, h)) in
     let p = s.requires.limits in
-    (b.0, omega (arith, b.1, p.1))
+    (b.0, omega (arith, b.1, p.0))
 
 pub loop-k-init : goal.loop-k-init
 loop-k-init c = (NatL.le_refl (n c), led_start (f c) (n c) c.args.iteration (is_one c), behind-start (f c) (g c) (n c))
@@ -223,16 +223,13 @@ returns-then-is_outside c =
     let s = start d in
     let a = s.args in
     sym (place_beyond (f s) (g s) (n s) (j d) (below d) (sym (test c.before) ∙ c.if-is_outside.true))
-    ∙ ap (place_of (points (tab (f s) (n s)))) (source-listed a.dependence.now (n s) (J s) (point-long (f s) (n s) a.iteration (is_one s)) s.requires.lengths.2)
+    ∙ ap (place_of (points (tab (f s) (n s)))) (source-listed a.dependence.now (n s) (J s) (point-long (f s) (n s) a.iteration (is_one s)) s.requires.lengths)
 
 pub distance-requires : goal.distance-requires
 distance-requires c =
     let a = c in
     let k = known a.before.before in
-    let l = loop_j k in
-    let d = turn_at a.before.before in
-    let w = within c in
-    rw (low-is k, less-is a.before.before) ((uncrossed l.lower l.upper (fine d)).lower_size, index_in_span l.lower l.upper (g (start d) (j d)) (fine d) w.0 w.1, w.0)
+    rw (low-is k, less-is a.before.before) (within c).0
 
 pub overflow_mul-at : goal.overflow_mul-at
 overflow_mul-at c = let s = next_small c in omega (arith, s.0, s.1)
@@ -254,5 +251,5 @@ returns c =
     let s : Start = c.before.before in
     let l = c.loop-k in
     let e : l.k ≡ 0 = let t = c.loop-k-test.false in omega arith in
-    behind_place (f s) s.args.dependence.now (n s) (J s) l.stride l.at (point-long (f s) (n s) s.args.iteration (is_one s)) s.requires.lengths.2
+    behind_place (f s) s.args.dependence.now (n s) (J s) l.stride l.at (point-long (f s) (n s) s.args.iteration (is_one s)) s.requires.lengths
     (subst (λ k. Behind (f s) (g s) (n s) k l.stride l.at) e l.invariant.2)

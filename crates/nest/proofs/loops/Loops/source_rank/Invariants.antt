@@ -8,7 +8,7 @@ use Rattle.integers.specs.Vector.{Vector}
 use Rattle.nest.specs.Nest.{limit_at, limits_in}
 use Rattle.nest.specs.Points.{points}
 use Rattle.nest.proofs.SourceRanks.{Led, Behind}
-use Rattle.nest.proofs.source.source_rank.Given as goal
+use Rattle.nest.proofs.loops.Loops.source_rank.Given as goal
 
 -- the index point of an iteration, and the indices of its source
 abbrev pub point_at : List ℤ → List ℤ → ℕ → Vector
@@ -19,5 +19,5 @@ less_at J d i = get_or J i (pos 0) -ℤ get_or d i (pos 0)
 
 abbrev pub invariant-loop-k : goal.invariant-loop-k
 invariant-loop-k l =
-    (l.k ≤ length l.lower) × Led (limit_at l.lower l.upper) (point_at l.lower l.upper l.iteration) l.k l.rest
-    × Behind (limit_at l.lower l.upper) (less_at (point_at l.lower l.upper l.iteration) l.dependence) (length l.lower) l.k l.stride l.at
+    (l.k ≤ length l.self.lower.now) × Led (limit_at l.self.lower.now l.self.upper.now) (point_at l.self.lower.now l.self.upper.now l.iteration) l.k l.rest
+    × Behind (limit_at l.self.lower.now l.self.upper.now) (less_at (point_at l.self.lower.now l.self.upper.now l.iteration) l.dependence) (length l.self.lower.now) l.k l.stride l.at
