@@ -10,7 +10,7 @@ mod points;
 mod refusals;
 mod source;
 
-ghost use Rattle.std.specs.Prelude.{◌≡◌, pos};
+ghost use Rattle.std.specs.Prelude.{◌≡◌, pos, set};
 ghost use Rattle.nest.specs.Nest.{empty_nest, with_shape, with_limits, with_time, with_dependence, with_boundary};
 ghost use Rattle.nest.specs.Nest.{with_every_boundary, with_weight, to_ℕ, max_depth, max_dependences, max_cube};
 ghost use Rattle.nest.specs.Nest.{max_limit, max_iterations, max_component, max_boundary, max_weight};
@@ -110,11 +110,12 @@ impl LoopNest {
     pub fn with_shape(self, depth: i64, count: i64, cube: i64) -> LoopNest
         ensures { result ≡ with_shape self depth count cube }
     {
-        let mut s = self;
-        s.depth = depth;
-        s.count = count;
-        s.cube = cube;
-        s
+        LoopNest {
+            depth,
+            count,
+            cube,
+            ..self
+        }
     }
 
     // The same nest with other limits of loop k, counted from 0 at the outermost; unchanged
@@ -122,12 +123,11 @@ impl LoopNest {
     pub fn with_limits(self, k: usize, lower: i64, upper: i64) -> LoopNest
         ensures { result ≡ with_limits self k lower upper }
     {
-        let mut s = self;
-        if k < LoopNest::MAX_DEPTH {
-            s.lower[k] = lower;
-            s.upper[k] = upper;
+        LoopNest {
+            lower: with_place(self.lower, k, lower),
+            upper: with_place(self.upper, k, upper),
+            ..self
         }
-        s
     }
 
     // The same nest with another component k of the time vector; unchanged
@@ -135,11 +135,10 @@ impl LoopNest {
     pub fn with_time(self, k: usize, component: i64) -> LoopNest
         ensures { result ≡ with_time self k component }
     {
-        let mut s = self;
-        if k < LoopNest::MAX_DEPTH {
-            s.time[k] = component;
+        LoopNest {
+            time: with_place(self.time, k, component),
+            ..self
         }
-        s
     }
 
     // The same nest with another component k of dependence i; unchanged where
@@ -159,32 +158,41 @@ impl LoopNest {
     pub fn with_boundary(self, i: usize, boundary: i64) -> LoopNest
         ensures { result ≡ with_boundary self i boundary }
     {
-        let mut s = self;
-        if i < LoopNest::MAX_DEPENDENCES {
-            s.boundaries[i] = boundary;
+        LoopNest {
+            boundaries: with_place(self.boundaries, i, boundary),
+            ..self
         }
-        s
     }
 
     // The same nest with one boundary value for every dependence.
     pub fn with_every_boundary(self, boundary: i64) -> LoopNest
         ensures { result ≡ with_every_boundary self boundary }
     {
-        let mut s = self;
-        s.boundaries = [boundary; LoopNest::MAX_DEPENDENCES];
-        s
+        LoopNest {
+            boundaries: [boundary; LoopNest::MAX_DEPENDENCES],
+            ..self
+        }
     }
 
     // The same nest with another weight of dependence i; unchanged where there is no such place.
     pub fn with_weight(self, i: usize, weight: i64) -> LoopNest
         ensures { result ≡ with_weight self i weight }
     {
-        let mut s = self;
-        if i < LoopNest::MAX_DEPENDENCES {
-            s.weights[i] = weight;
+        LoopNest {
+            weights: with_place(self.weights, i, weight),
+            ..self
         }
-        s
     }
+}
+
+// An array with another number at place i; unchanged where there is no such place.
+fn with_place<const N: usize>(mut array: [i64; N], i: usize, value: i64) -> [i64; N]
+    ensures { result ≡ set array.entry i value }
+{
+    if i < N {
+        array[i] = value;
+    }
+    array
 }
 
 // A number that is not negative as a size; 0 for a negative one.
