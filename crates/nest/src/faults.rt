@@ -56,15 +56,6 @@ fn is_backward(dependence: &[i64]) -> bool
     true
 }
 
-// The rows of the first m dependences, each with a place for each component.
-pub fn rows_of(dependences: &[i64], m: usize) -> &[[i64; LoopNest::MAX_DEPTH]]
-    requires { m * max_depth ≤ length dependences.now }
-    ensures { result.now ≡ take m (first_chunks max_depth (length dependences.now / max_depth) dependences.now) }
-{
-    let (rows, _) = dependences.as_chunks::<{ LoopNest::MAX_DEPTH }>();
-    &rows[..m]
-}
-
 // Whether a component of a vector is out of span.
 pub fn is_out_of_span(vector: &[i64]) -> bool
     ensures { result ≡ out_of_span vector.now }
@@ -72,50 +63,11 @@ pub fn is_out_of_span(vector: &[i64]) -> bool
     any_outside(vector, -LoopNest::MAX_COMPONENT, LoopNest::MAX_COMPONENT)
 }
 
-// Whether one of some dependences of n components, each in a row of its own, has one out of span.
-pub fn any_out_of_span(rows: &[[i64; LoopNest::MAX_DEPTH]], n: usize) -> bool
-    requires { n ≤ max_depth }
-    ensures { result ≡ list_any (λ row. out_of_span (take n row)) rows.now }
-{
-    rows.iter().any(|row| is_out_of_span(&row[..n]))
-}
-
-// Whether one of them is backward.
-pub fn any_backward(rows: &[[i64; LoopNest::MAX_DEPTH]], n: usize) -> bool
-    requires { n ≤ max_depth }
-    ensures { result ≡ list_any (λ row. backward (take n row)) rows.now }
-{
-    rows.iter().any(|row| is_backward(&row[..n]))
-}
-
 // Whether two dependences are equal.
 fn are_equal(a: &[i64], b: &[i64]) -> bool
     ensures { result ≡ eq_v a.now b.now }
 {
     a == b
-}
-
-// Whether a dependence equals one of others.
-fn equals_one_of(dependence: &[i64], rows: &[[i64; LoopNest::MAX_DEPTH]], n: usize) -> bool
-    requires { n ≤ max_depth }
-    ensures { result ≡ list_any (λ row. eq_v dependence.now (take n row)) rows.now }
-{
-    rows.iter().any(|row| are_equal(dependence, &row[..n]))
-}
-
-// Whether two of them are equal.
-pub fn any_equal(rows: &[[i64; LoopNest::MAX_DEPTH]], n: usize) -> bool
-    requires { n ≤ max_depth }
-    ensures { result ≡ repeats eq_v (map (take n) rows.now) }
-{
-    let mut rest = rows;
-    while let Some((first, others)) = rest.split_first() {
-        if equals_one_of(&first[..n], others, n) {
-            return true;
-        }
-        rest = others;
-    }
-    false
 }
 
 // The inner product of a time vector and as many numbers, which are in the span of an index.
@@ -142,20 +94,82 @@ fn is_against(time: &[i64], row: &[i64; LoopNest::MAX_DEPTH]) -> bool
     inner_product(time, &row[..time.len()]) < 1
 }
 
-// Whether P·d is below 1 for one of them, where all are in span.
-pub fn any_against(time: &[i64], rows: &[[i64; LoopNest::MAX_DEPTH]]) -> bool
-    requires lengths { length time.now ≤ max_depth }
-    requires time_span { out_of_span time.now ≡ false }
-    requires row_spans { EachIndex rows.now
-        (λ i. out_of_span (take (length time.now) (slice_index_or rows.now i [])) ≡ false) }
-    ensures { result ≡ list_any (λ row. against time.now (take (length time.now) row)) rows.now }
-{
-    // Kept: a loop, since the proof that `any` may call a closure that asks something of each row
-    // didn't close.
-    for row in rows {
-        if is_against(time, row) {
-            return true;
+// Some dependences of n components, each in a row of its own.
+#[derive(Clone, Copy)]
+pub struct Dependences<'a> {
+    pub rows: &'a [[i64; LoopNest::MAX_DEPTH]],
+    pub n: usize,
+    ghost few: { n ≤ max_depth },
+}
+
+impl<'a> Dependences<'a> {
+    // The first m of an array that has a place for each component.
+    pub fn new(dependences: &'a [i64], m: usize, n: usize) -> Dependences<'a>
+        requires { (n ≤ max_depth) × (m * max_depth ≤ length dependences.now) }
+        ensures depth { result.n ≡ n }
+        ensures rows { result.rows.now ≡ take m
+            (first_chunks max_depth (length dependences.now / max_depth) dependences.now) }
+    {
+        let (rows, _) = dependences.as_chunks::<{ LoopNest::MAX_DEPTH }>();
+        Dependences {
+            rows: &rows[..m],
+            n,
         }
     }
-    false
+
+    // Whether one of them has a component out of span.
+    pub fn any_out_of_span(&self) -> bool
+        ensures { result ≡ list_any (λ row. out_of_span (take self.now.n row)) self.now.rows.now }
+    {
+        self.rows.iter().any(|row| is_out_of_span(&row[..self.n]))
+    }
+
+    // Whether one of them is backward.
+    pub fn any_backward(&self) -> bool
+        ensures { result ≡ list_any (λ row. backward (take self.now.n row)) self.now.rows.now }
+    {
+        self.rows.iter().any(|row| is_backward(&row[..self.n]))
+    }
+
+    // Whether one of them is equal to a dependence.
+    fn has(&self, dependence: &[i64]) -> bool
+        ensures { result ≡ list_any (λ row. eq_v dependence.now (take self.now.n row)) self.now.rows.now }
+    {
+        self.rows
+            .iter()
+            .any(|row| are_equal(dependence, &row[..self.n]))
+    }
+
+    // Whether two of them are equal.
+    pub fn any_equal(&self) -> bool
+        ensures { result ≡ repeats eq_v (map (take self.now.n) self.now.rows.now) }
+    {
+        let n = self.n;
+        let mut rest = self.rows;
+        while let Some((first, rows)) = rest.split_first() {
+            if (Dependences { rows, n }).has(&first[..n]) {
+                return true;
+            }
+            rest = rows;
+        }
+        false
+    }
+
+    // Whether P·d is below 1 for one of them, where all are in span.
+    pub fn any_against(&self, time: &[i64]) -> bool
+        requires lengths { length time.now ≡ self.now.n }
+        requires time_span { out_of_span time.now ≡ false }
+        requires row_spans { EachIndex self.now.rows.now
+            (λ i. out_of_span (take self.now.n (slice_index_or self.now.rows.now i [])) ≡ false) }
+        ensures { result ≡ list_any (λ row. against time.now (take self.now.n row)) self.now.rows.now }
+    {
+        // Kept: a loop, since the proof that `any` may call a closure that asks something of each row
+        // didn't close.
+        for row in self.rows {
+            if is_against(time, row) {
+                return true;
+            }
+        }
+        false
+    }
 }

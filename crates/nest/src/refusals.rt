@@ -6,10 +6,7 @@ ghost use Rattle.nest.specs.NestParts.{nest_of_parts};
 ghost use Rattle.nest.specs.Refusals.{refusal, first_met, header_order, limit_order, vector_order, weight_order};
 ghost use Rattle.nest.specs.Refusals.{room_refusal, Checks, Inspects, inspection_of};
 
-use crate::faults::{
-    any_against, any_backward, any_crossed, any_equal, any_out_of_span, any_outside,
-    is_out_of_span, is_outside, rows_of,
-};
+use crate::faults::{Dependences, any_crossed, any_outside, is_out_of_span, is_outside};
 use crate::{AcceptedNest, LoopNest, Loops, NestParts, to_size};
 
 // Why a call is refused: the words from the rack, each with its number in the document. 12 is not
@@ -104,20 +101,21 @@ fn check_vectors(time: &[i64], dependences: &[i64], n: usize, m: usize) -> Resul
         (nest_from (pos n) (pos m) (pos 0) [] [] time.now dependences.now
         [] []) vector_order }
 {
-    if is_out_of_span(&time[..n]) {
+    let time = &time[..n];
+    if is_out_of_span(time) {
         return Err(Refusal::BadTime);
     }
-    let rows = rows_of(dependences, m);
-    if any_out_of_span(rows, n) {
+    let listed = Dependences::new(dependences, m, n);
+    if listed.any_out_of_span() {
         return Err(Refusal::BadDependence);
     }
-    if any_backward(rows, n) {
+    if listed.any_backward() {
         return Err(Refusal::BackwardDependence);
     }
-    if any_equal(rows, n) {
+    if listed.any_equal() {
         return Err(Refusal::EqualDependences);
     }
-    if any_against(&time[..n], rows) {
+    if listed.any_against(time) {
         return Err(Refusal::AgainstTime);
     }
     Ok(())
