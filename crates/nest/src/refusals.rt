@@ -1,5 +1,6 @@
 // The refusals of the document ("Words from the rack"), and the first of a nest's.
-ghost use Rattle.std.specs.Prelude.{◌≡◌, ◌*◌, ◌≤◌, pos, [], length, IfOk};
+ghost use Rattle.std.specs.Prelude.{◌≡◌, ◌*◌, ◌≤◌, pos, [], length, ltb, IfOk};
+ghost use Rattle.std.specs.List.{list_any};
 ghost use Rattle.nest.specs.Nest.{nest_from, max_depth};
 ghost use Rattle.nest.specs.Outcomes.{code, number_in};
 ghost use Rattle.nest.specs.NestParts.{nest_of_parts};
@@ -182,14 +183,19 @@ pub fn accept(s: LoopNest) -> Result<AcceptedNest, Refusal>
     })
 }
 
+// Whether one of some lent buffers has fewer entries than are needed.
+fn any_short(needed: usize, rooms: &[usize]) -> bool
+    ensures { result ≡ list_any (λ room. ltb room needed) rooms.now }
+{
+    rooms.iter().any(|room| *room < needed)
+}
+
 // 14 if one of some lent buffers has fewer entries than are needed.
 pub fn check_room(needed: usize, rooms: &[usize]) -> Result<(), Refusal>
     ensures { number_in result ≡ room_refusal needed rooms.now }
 {
-    for room in rooms {
-        if *room < needed {
-            return Err(Refusal::ShortBuffer);
-        }
+    if any_short(needed, rooms) {
+        return Err(Refusal::ShortBuffer);
     }
     Ok(())
 }
