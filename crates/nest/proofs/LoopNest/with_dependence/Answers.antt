@@ -8,7 +8,7 @@ use lib.Dec.{ltb}
 use Rattle.integers.proofs.Lists.{split}
 use native.Mathlib.Omega.{arith}
 use lib.ListN.{set}
-use borrow.Author.Tests.{ltb-true, lt-ltb, le-ltb}
+use borrow.Author.Tests.{lt-ltb, le-ltb}
 use mir.Facts.{to_z-of_z}
 use Rattle.nest.specs.Nest.{with_component, max_depth, max_dependences}
 use Rattle.nest.proofs.LoopNest.with_dependence.Goals as goal
@@ -27,7 +27,7 @@ component-none xs i k z (inr q) = split (ltb i max_dependences) (λ t. rw (with_
 
 -- the test on k
 k-low : (c : Then-k-lt-MAX_DEPTH) → c.args.k < max_depth
-k-low c = ltb-true c.args.k max_depth c.if-k-lt-MAX_DEPTH.true-raw
+k-low c = let t = c.if-k-lt-MAX_DEPTH.true in omega arith
 
 pub returns-then-k-lt-MAX_DEPTH : goal.returns-then-k-lt-MAX_DEPTH
 returns-then-k-lt-MAX_DEPTH c =
