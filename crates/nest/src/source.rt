@@ -47,7 +47,8 @@ impl Loops<'_> {
         let mut rest = iteration as u64;
         let mut stride: u64 = 1;
         let mut at: u64 = 0;
-        // Kept: k goes down through three arrays, and a `rev` on each behind a `zip` is no plainer.
+        // Kept: k goes down through three arrays. Of a `rev` behind a `zip` a proof learns nothing, and one
+        // on each array in front of it is no plainer.
         for k in (0..self.lower.len()).rev() {
             let low = self.lower[k];
             let high = self.upper[k];

@@ -1,7 +1,7 @@
 -- `point_of` meets its contract. Assumes nothing.
-use mathlib.Core.Path.{◌∙◌, ap, subst}
+use mathlib.Core.Path.{◌∙◌, ap}
 use mathlib.Core.List.{List, []}
-use Prim.Native.Nat.{◌<◌}
+use native.Mathlib.Omega.{arith}
 use lib.ListN.{get_or}
 use Rattle.nest.specs.Nest.{Limit, padded, limits_of, max_depth}
 use Rattle.nest.specs.Points.{points, points_of}
@@ -15,7 +15,8 @@ point_at-requires-clause-some c = rw c.loops.ensures.depth (depth_is c.args.self
 pub point_at-requires-clause-point : goal.point_at-requires-clause-point
 unfolding points_of
 point_at-requires-clause-point c =
-    rw c.loops.ensures.limits (subst (λ m. c.args.rank < m) (point-count (limits_of c.args.self.now.nest)) c.requires)
+    let h = c.requires in
+    rw c.loops.ensures.limits (omega (arith, h, point-count (limits_of c.args.self.now.nest)))
 
 pub returns : goal.returns
 unfolding points_of
