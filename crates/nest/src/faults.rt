@@ -4,7 +4,7 @@ ghost use Rattle.std.specs.Prelude.{◌≡◌, false, ℕ, ◌*◌, ◌/◌, ◌
 ghost use Rattle.std.specs.Prelude.{EachIndex, slice_index_or};
 ghost use Rattle.std.specs.List.{list_any, zip};
 ghost use Rattle.std.specs.Simd.{first_chunks};
-ghost use Rattle.integers.specs.Lists.{any, repeats};
+ghost use Rattle.integers.specs.Lists.{repeats};
 ghost use Rattle.integers.specs.Vector.{dots, eq_v};
 ghost use Rattle.nest.specs.Nest.{max_depth, max_limit, max_component};
 ghost use Rattle.nest.specs.Refusals.{outside, crossed, out_of_span, backward, against};

@@ -25,9 +25,6 @@ accepted-count s e = rw (iterations, eq-eqb (refusal s) 0 e) (point-count (limit
 both : {r q m n : ℕ} → r ≡ q → m ≡ n → ◌≡◌ {A = Inspection} (record { refusal = r; iterations = m }) (record { refusal = q; iterations = n })
 both e f = λ i. record { refusal = e i; iterations = f i }
 
-pub loops-requires : goal.loops-requires
-loops-requires c = sym c.check_parts.ensures ∙ ap number_in c.in_ok-check_parts.was
-
 pub returns-in_err-check_parts : goal.returns-in_err-check_parts
 returns-in_err-check_parts c =
     let r = c.from_residual.result in

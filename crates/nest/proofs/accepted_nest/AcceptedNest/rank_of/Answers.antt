@@ -19,12 +19,6 @@ within c =
     let long : length c.args.point ≡ max_depth = search rules in
     rw (c.depth.ensures, long) (depth_is c.args.self.now.nest c.args.self.now.accepted).1
 
-pub slice_bounds-point-end : goal.slice_bounds-point-end
-slice_bounds-point-end c = within c
-
-pub slice_bounds-rank_of-end : goal.slice_bounds-rank_of-end
-slice_bounds-rank_of-end c = sym (length-take-le c.depth.result c.args.point (within (goal.at.slice_bounds-rank_of-end c).After-depth))
-
 pub rank_of-requires : goal.rank_of-requires
 rank_of-requires c = length-take-le c.depth.result c.args.point (within (goal.at.rank_of-requires c).After-depth) ∙ c.depth.ensures ∙ sym c.loops.ensures.depth
 
