@@ -1,7 +1,9 @@
 -- `NestParts::loops` meets its contract. Assumes nothing.
-use mathlib.Core.Path.{◌≡◌, sym, ◌∙◌, ap}
+use mathlib.Core.Path.{◌≡◌, ◌∙◌, ap}
+use mathlib.Core.List.{List}
 use Prim.Native.Nat.{◌≤◌}
 use native.Mathlib.Omega.{arith}
+use lib.IntN.{ℤ}
 use lib.ListN.{length, take}
 use Rattle.std.proofs.Common.{rules}
 use Rattle.std.proofs.lemmas.List.{length-take-le}
@@ -24,26 +26,29 @@ depth c =
 few : (c : After-to_size-n) → c.to_size-n.result ≤ max_depth
 few c = rw (depth c) (depth_is (nest_of_parts c.args.self.now) c.requires).1
 
+long : (c : After-to_size-n) (xs : List ℤ) → length xs ≡ max_depth → length (take c.to_size-n.result xs) ≡ c.to_size-n.result
+long c xs h = length-take-le c.to_size-n.result xs (omega (arith, few c))
+
 lower : (c : After-to_size-n) → length (take c.to_size-n.result c.args.self.now.lower.now) ≡ c.to_size-n.result
-lower c = length-take-le c.to_size-n.result c.args.self.now.lower.now (omega (arith, few c, c.args.self.now.sized.0))
+lower c = long c c.args.self.now.lower.now c.args.self.now.sized.0
 
 upper : (c : After-to_size-n) → length (take c.to_size-n.result c.args.self.now.upper.now) ≡ c.to_size-n.result
-upper c = length-take-le c.to_size-n.result c.args.self.now.upper.now (omega (arith, few c, c.args.self.now.sized.1))
+upper c = long c c.args.self.now.upper.now c.args.self.now.sized.1
 
 limits : (c : After-to_size-n) → limits_in (take c.to_size-n.result c.args.self.now.lower.now) (take c.to_size-n.result c.args.self.now.upper.now) ≡ limits_of (nest_of_parts c.args.self.now)
 limits c = limits-slices (nest_of_parts c.args.self.now) c.to_size-n.result (depth c) (omega (arith, few c, c.args.self.now.sized.0))
 
 pub slice_bounds-result-end : goal.slice_bounds-result-end
-slice_bounds-result-end c = sym (lower (goal.at.slice_bounds-result-end c).After-to_size-n)
+slice_bounds-result-end c = let t = (goal.at.slice_bounds-result-end c).After-to_size-n in omega (arith, lower t, upper t)
 
 pub slice_bounds-result-end-2 : goal.slice_bounds-result-end-2
-slice_bounds-result-end-2 c = sym (upper (goal.at.slice_bounds-result-end-2 c).After-to_size-n)
+slice_bounds-result-end-2 c = let t = (goal.at.slice_bounds-result-end-2 c).After-to_size-n in omega (arith, lower t, upper t)
 
 pub invariant_of-result : goal.invariant_of-result
 invariant_of-result c =
     let t = (goal.at.invariant_of-result c).After-to_size-n in
     record {
-      lengths = rw (lower t) (few t, upper t);
+      lengths = (omega (arith, few t, lower t), omega (arith, lower t, upper t));
       limits = ap (any crossed) (limits t) ∙ no-limit-crossed (nest_of_parts c.args.self.now) c.requires;
     }
 
