@@ -71,6 +71,8 @@ fn are_equal(a: &[i64], b: &[i64]) -> bool
 }
 
 // The inner product of a time vector and as many numbers, which are in the span of an index.
+// Kept: the sizes are asked of two single vectors, since a type for one would be made for this call
+// alone, and taken apart in it.
 pub fn inner_product(time: &[i64], xs: &[i64]) -> i64
     requires lengths { (length time.now ≡ length xs.now) × (length xs.now ≤ max_depth) }
     requires by_index { (k : ℕ) → k < length xs.now → (nat_abs (get_or time.now k (pos 0)) ≤ max_component)

@@ -189,6 +189,7 @@ impl LoopNest {
 fn with_place<const N: usize>(mut array: [i64; N], i: usize, value: i64) -> [i64; N]
     ensures { result ≡ set array.entry i value }
 {
+    // Kept: a test and an index, since the proof with `get_mut` didn't close.
     if i < N {
         array[i] = value;
     }

@@ -17,6 +17,7 @@ pub fn dependence_at(dependences: &[i64], n: usize, i: usize) -> &[i64]
 }
 
 // A point less a dependence, with 0 in the places behind the depth; both are in span.
+// Kept: the sizes are asked of two single vectors, as in `inner_product`.
 pub fn difference(point: &[i64], dependence: &[i64]) -> [i64; LoopNest::MAX_DEPTH]
     requires lengths { (length point.now ≤ max_depth) × (length dependence.now ≡ length point.now) }
     requires by_index { (k : ℕ) → k < length point.now → (nat_abs (get_or point.now k (pos 0)) ≤ max_limit)
@@ -34,6 +35,7 @@ impl Loops<'_> {
     // The rank of the source of an iteration along a dependence; none where the source is none of
     // the index points. From the innermost loop outward, each index is what the extent of its loop
     // leaves of the iteration's rank.
+    // Kept: the sizes are asked of a single vector, as in `inner_product`.
     pub fn source_rank(&self, dependence: &[i64], iteration: usize) -> Option<usize>
         requires lengths { length dependence.now ≡ length self.now.lower.now }
         requires limits { (point_count (limits_in self.now.lower.now self.now.upper.now) ≤ max_iterations)
