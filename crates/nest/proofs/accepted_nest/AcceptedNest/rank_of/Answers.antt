@@ -1,10 +1,9 @@
 -- `rank_of` meets its contract. Assumes nothing.
-use mathlib.Core.Path.{◌≡◌, sym, ◌∙◌, ap, ap₂}
+use mathlib.Core.Path.{◌≡◌, ◌∙◌, ap, ap₂}
 use mathlib.Core.List.{List}
 use Prim.Native.Nat.{◌≤◌}
 use lib.ListN.{length}
 use borrow.Author.Rules.{rules}
-use Rattle.std.proofs.lemmas.List.{length-take-le}
 use Rattle.integers.specs.Vector.{Vector}
 use Rattle.nest.specs.Nest.{Limit, part, max_depth}
 use Rattle.nest.specs.Points.{points, points_of, place_of}
@@ -18,9 +17,6 @@ within : (c : After-depth) → c.depth.result ≤ length c.args.point
 within c =
     let long : length c.args.point ≡ max_depth = search rules in
     rw (c.depth.ensures, long) (depth_is c.args.self.now.nest c.args.self.now.accepted).1
-
-pub rank_of-requires : goal.rank_of-requires
-rank_of-requires c = length-take-le c.depth.result c.args.point (within (goal.at.rank_of-requires c).After-depth) ∙ c.depth.ensures ∙ sym c.loops.ensures.depth
 
 pub returns : goal.returns
 unfolding points_of
