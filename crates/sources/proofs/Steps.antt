@@ -23,7 +23,7 @@ use Rattle.nest.proofs.Conditions.{uncrossed}
 use Rattle.nest.proofs.Counted.{extent-within}
 use Rattle.sources.specs.Keys.{base, key, max_key, above}
 use Rattle.sources.specs.declared.Limits.{Limits}
-use Rattle.sources.specs.Loops.{limit_of, limits_in}
+use Rattle.sources.specs.Loops.{limit_of, loop_limits}
 use Rattle.sources.proofs.Arrays.{key-take_more, key-take-size}
 use Rattle.sources.proofs.Digits.{above-small}
 use Rattle.sources.proofs.NestKeys.{dependence-within}
@@ -113,7 +113,7 @@ pub record Loops (ls : List Limits) (a : ℤ) : Type 0 where
   pub next : (q : ℕ) → q < extent (limit_of (outer_of ls)) → LaterKey (first_held a (outer_of ls).lower) (a *ℤ pos base +ℤ (outer_of ls).lower) q
   pub next_size : (q : ℕ) → q < extent (limit_of (outer_of ls)) → nat_abs ((a *ℤ pos base +ℤ (outer_of ls).lower) +ℤ pos q) + nat_abs ((a *ℤ pos base +ℤ (outer_of ls).lower) +ℤ pos q) < base ^ (max_depth - length (inner_of ls))
 
-pub some_loops : (ls : List Limits) (a : ℤ) → 1 ≤ length ls → length ls ≤ max_depth → nat_abs a + nat_abs a < base ^ (max_depth - length ls) → any crossed (limits_in ls) ≡ false → Loops ls a
+pub some_loops : (ls : List Limits) (a : ℤ) → 1 ≤ length ls → length ls ≤ max_depth → nat_abs a + nat_abs a < base ^ (max_depth - length ls) → any crossed (loop_limits ls) ≡ false → Loops ls a
 some_loops ls a h m p f =
     let S = split_loops ls h f in
     let l = fine_limits (outer_of ls) S.fine in

@@ -25,7 +25,7 @@ use Rattle.nest.proofs.Conditions.{index_in_span}
 use Rattle.nest.proofs.Order.{point-count, index-within}
 use Rattle.sources.specs.Keys.{base, key_from, key, max_key, keys_of}
 use Rattle.sources.specs.declared.Limits.{Limits}
-use Rattle.sources.specs.Loops.{limit_of, limits_in}
+use Rattle.sources.specs.Loops.{limit_of, loop_limits}
 use Rattle.sources.proofs.Arrays.{power-most}
 
 -- ---- the digits of the outer indices
@@ -103,14 +103,14 @@ pub record Split (ls : List Limits) : Type 0 where
   -- the limits of the outermost are not crossed
   pub fine : crossed (limit_of (outer_of ls)) ≡ false
   -- nor those of a loop inside it
-  pub inner_fine : any crossed (limits_in (inner_of ls)) ≡ false
+  pub inner_fine : any crossed (loop_limits (inner_of ls)) ≡ false
   -- the number of points
-  pub count : point_count (limits_in ls) ≡ extent (limit_of (outer_of ls)) * point_count (limits_in (inner_of ls))
+  pub count : point_count (loop_limits ls) ≡ extent (limit_of (outer_of ls)) * point_count (loop_limits (inner_of ls))
   -- their keys, behind a prefix
-  pub keys : (a : ℤ) → map (key_from a) (points (limits_in ls)) ≡ behind_each (points (limits_in (inner_of ls))) (prefixes a (outer_of ls).lower) (extent (limit_of (outer_of ls)))
+  pub keys : (a : ℤ) → map (key_from a) (points (loop_limits ls)) ≡ behind_each (points (loop_limits (inner_of ls))) (prefixes a (outer_of ls).lower) (extent (limit_of (outer_of ls)))
 
 -- they can be split so
-pub split_loops : (ls : List Limits) → 1 ≤ length ls → any crossed (limits_in ls) ≡ false → Split ls
+pub split_loops : (ls : List Limits) → 1 ≤ length ls → any crossed (loop_limits ls) ≡ false → Split ls
 split_loops ls h f = record {
   fewer = simp (length-take, length-drop) (omega arith);
   fine = sym (any-one crossed l) ∙ b.0;
@@ -123,16 +123,16 @@ split_loops ls h f = record {
     l = limit_of (outer_of ls)
 
     rest : List Limit
-    rest = limits_in (inner_of ls)
+    rest = loop_limits (inner_of ls)
 
-    e : limits_in ls ≡ l ∷ rest
+    e : loop_limits ls ≡ l ∷ rest
     e = ap (map limit_of) (first_rest ls no_loop (omega arith))
 
     b : (any crossed (l ∷ []) ≡ false) × (any crossed rest ≡ false)
     b = or_false (any crossed (l ∷ [])) (any crossed rest) (sym (any_append crossed (l ∷ []) rest) ∙ ap (any crossed) (sym e) ∙ f)
 
 -- where no loop is inside it
-pub only-loop : (ls : List Limits) → length ls ≡ 1 → limits_in ls ≡ limit_of (outer_of ls) ∷ []
+pub only-loop : (ls : List Limits) → length ls ≡ 1 → loop_limits ls ≡ limit_of (outer_of ls) ∷ []
 only-loop [] h = absurd (omega arith)
 only-loop (l ∷ []) h = refl
 only-loop (l ∷ m ∷ ls) h = absurd (omega arith)
@@ -187,7 +187,7 @@ module _ (ls : List Limits) (a : ℤ) (S : Split ls) (old : List ℤ) where
 
   -- those of the loops inside it
   abbrev inner : List Limit
-  inner = limits_in (inner_of ls)
+  inner = loop_limits (inner_of ls)
 
   -- the digits with its lowest index
   abbrev first : ℤ
@@ -195,7 +195,7 @@ module _ (ls : List Limits) (a : ℤ) (S : Split ls) (old : List ℤ) where
 
   -- what the walk over these loops answers and leaves
   abbrev pub Done : ℕ → List ℤ → Type 0
-  Done r new = (r ≡ point_count (limits_in ls)) × (new ≡ map (key_from a) (points (limits_in ls)) ++ drop (point_count (limits_in ls)) old)
+  Done r new = (r ≡ point_count (loop_limits ls)) × (new ≡ map (key_from a) (points (loop_limits ls)) ++ drop (point_count (loop_limits ls)) old)
 
   -- the loops inside, behind the first q indices
   abbrev pub WalkedTo : ℤ → ℕ → ℕ → List ℤ → Type 0
@@ -218,13 +218,13 @@ module _ (ls : List Limits) (a : ℤ) (S : Split ls) (old : List ℤ) where
   pub walk_out : (f : ℤ) (n q written : ℕ) (cur : List ℤ) → WalkedTo f q written cur → f ≡ first → n ≡ extent outer → q ≤ n → n ≤ q → Done written cur
   walk_out f n q written cur w p e l m =
       let z : q ≡ extent outer = omega arith in
-      let c : written ≡ point_count (limits_in ls) = omega (arith, w.0, S.count, ap (λ i. i * point_count inner) z) in (
+      let c : written ≡ point_count (loop_limits ls) = omega (arith, w.0, S.count, ap (λ i. i * point_count inner) z) in (
         c,
         w.1 ∙ ap₂ (λ (x : ℤ) (i : ℕ). behind_each (points inner) (λ j. x +ℤ pos j) i ++ drop written old) p z ∙ ap₂ (λ (s : List ℤ) (i : ℕ). s ++ drop i old) (sym (S.keys a)) c,
       )
 
   -- the place behind the first q is in the table, with those of one more
-  pub walk_room : (f : ℤ) (q written : ℕ) (cur : List ℤ) → WalkedTo f q written cur → q < extent outer → point_count (limits_in ls) ≤ length old → written + point_count inner ≤ length cur
+  pub walk_room : (f : ℤ) (q written : ℕ) (cur : List ℤ) → WalkedTo f q written cur → q < extent outer → point_count (loop_limits ls) ≤ length old → written + point_count inner ≤ length cur
   walk_room f q written cur w l h =
       let m = NatL.mul-le-mul_right {m = suc q} {n = extent outer} (point_count inner) l in
       omega (arith, w.0, S.count, NatL.suc-mul q (point_count inner), ap length w.1 ∙ length-append (behind_each (points inner) (λ i. f +ℤ pos i) q) (drop written old), each-length inner (λ i. f +ℤ pos i) q, length-drop written old)
@@ -253,7 +253,7 @@ module _ (s : LoopNest) where
   all-places ls e = ap (map limit_of) e ∙ map-tab limit_of places_of max_depth
 
   -- the first of the loops that stand in an array
-  pub all-limits : (ls : List Limits) → map limit_of ls ≡ tab (limit_at s.lower s.upper) max_depth → (n : ℕ) → n ≡ depth_of s → depth_of s ≤ max_depth → limits_in (take n ls) ≡ limits_of s
+  pub all-limits : (ls : List Limits) → map limit_of ls ≡ tab (limit_at s.lower s.upper) max_depth → (n : ℕ) → n ≡ depth_of s → depth_of s ≤ max_depth → loop_limits (take n ls) ≡ limits_of s
   unfolding limits_of
   all-limits ls e n d m = sym (take-map limit_of n ls) ∙ ap₂ (λ (i : ℕ) (t : List Limit). take i t) d e ∙ take-tab (limit_at s.lower s.upper) max_depth (depth_of s) m
 

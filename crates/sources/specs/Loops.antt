@@ -9,5 +9,5 @@ abbrev pub limit_of : Limits → Limit
 limit_of l = record { lower = l.lower; upper = l.upper }
 
 -- the limits of some loops
-abbrev pub limits_in : List Limits → List Limit
-limits_in ls = map limit_of ls
+abbrev pub loop_limits : List Limits → List Limit
+loop_limits ls = map limit_of ls

@@ -15,7 +15,7 @@ ghost use Rattle.nest.specs.Nest.{limit_at, padded, max_depth, max_dependences, 
 ghost use Rattle.nest.specs.Points.{extent, points, points_of, point_count};
 ghost use Rattle.nest.specs.Refusals.{crossed};
 ghost use Rattle.sources.specs.Keys.{base, key_from, key, max_key, above, digits, keys_of, distances_of};
-ghost use Rattle.sources.specs.Loops.{limit_of, limits_in};
+ghost use Rattle.sources.specs.Loops.{limit_of, loop_limits};
 
 pub use crate::keyed_nest::KeyedNest;
 pub use crate::seeking::Sources;
@@ -104,11 +104,11 @@ fn row_from(limits: Limits, prefix: i64, keys: &mut [i64]) -> usize
 fn keys_from(loops: &[Limits], prefix: i64, keys: &mut [i64]) -> usize
     requires { (1 ≤ length loops.now) × (length loops.now ≤ max_depth)
         × (nat_abs prefix + nat_abs prefix < base ^ (max_depth - length loops.now))
-        × (any crossed (limits_in loops.now) ≡ false)
-        × (point_count (limits_in loops.now) ≤ length keys.old) }
-    ensures value { result ≡ point_count (limits_in loops.now) }
-    ensures keys_after { keys.new ≡ map (key_from prefix) (points (limits_in loops.now))
-        ++ drop (point_count (limits_in loops.now)) keys.old }
+        × (any crossed (loop_limits loops.now) ≡ false)
+        × (point_count (loop_limits loops.now) ≤ length keys.old) }
+    ensures value { result ≡ point_count (loop_limits loops.now) }
+    ensures keys_after { keys.new ≡ map (key_from prefix) (points (loop_limits loops.now))
+        ++ drop (point_count (loop_limits loops.now)) keys.old }
 {
     let outer = loops[0];
     let inner = &loops[1..];

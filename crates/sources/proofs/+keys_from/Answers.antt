@@ -4,7 +4,7 @@ use borrow.Author.Tests.{eqb-true, eqb-false}
 use native.Mathlib.Nat as NatL
 use mir.Facts.{to_z-of_z}
 use Rattle.integers.proofs.Machine.{reads}
-use Rattle.sources.specs.Loops.{limit_of, limits_in}
+use Rattle.sources.specs.Loops.{limit_of, loop_limits}
 use Rattle.sources.specs.Keys.{base, key_from}
 use Rattle.integers.specs.Lists.{any}
 use Rattle.integers.proofs.Lists.{any-one}
@@ -38,7 +38,7 @@ module _ (t : ℕ) where
   below : (i : In-loop-q t) → i.loop-q.q < extent (limit_of (outer_of i.args.loops.now))
   below i = omega (arith, count (goal.at.In-loop-q t i).After-extent_of-count, i.loop-q-test.true)
 
-  room : (i : In-loop-q t) → i.loop-q.written + point_count (limits_in (inner_of i.args.loops.now)) ≤ length i.loop-q.keys
+  room : (i : In-loop-q t) → i.loop-q.written + point_count (loop_limits (inner_of i.args.loops.now)) ≤ length i.loop-q.keys
   room i =
       let d = (goal.at.In-loop-q t i).Start in
       walk_room i.args.loops.now i.args.prefix (loops d).split i.args.keys.now (first_held i.args.prefix (outer_of i.args.loops.now).lower) i.loop-q.q i.loop-q.written i.loop-q.keys (walked i) (below i) i.requires.4
@@ -79,8 +79,8 @@ extent_of-count-requires t c = let o = loops t (goal.at.extent_of-count-requires
 pub loop-q-init : goal.loop-q-init
 loop-q-init t c = record {
   within = omega arith;
-  written_so_far = sym (NatL.zero-mul (point_count (limits_in (inner_of c.args.loops.now))));
-  table = walk_none c.args.keys.now (limits_in (inner_of c.args.loops.now)) (λ i. first_held c.args.prefix (outer_of c.args.loops.now).lower +ℤ pos i);
+  written_so_far = sym (NatL.zero-mul (point_count (loop_limits (inner_of c.args.loops.now))));
+  table = walk_none c.args.keys.now (loop_limits (inner_of c.args.loops.now)) (λ i. first_held c.args.prefix (outer_of c.args.loops.now).lower +ℤ pos i);
 }
 
 pub overflow_cast-behind : goal.overflow_cast-behind
@@ -99,7 +99,7 @@ pub slice_bounds-rest-start : goal.slice_bounds-rest-start
 slice_bounds-rest-start t c = omega (arith, room t (goal.at.slice_bounds-rest-start t c).In-loop-q)
 
 -- where one loop is inside
-one-inside : (ls : List Limits) → length (inner_of ls) ≡ 1 → limits_in (inner_of ls) ≡ limit_of (outer_of (inner_of ls)) ∷ []
+one-inside : (ls : List Limits) → length (inner_of ls) ≡ 1 → loop_limits (inner_of ls) ≡ limit_of (outer_of (inner_of ls)) ∷ []
 one-inside ls h = only-loop (inner_of ls) h
 
 pub row_from-requires-then-inner-eq1 : goal.row_from-requires-then-inner-eq1
@@ -135,7 +135,7 @@ module _ (t : ℕ) where
   behind i = reads (first_held i.args.prefix (outer_of i.args.loops.now).lower +ℤ to_z w64 i.loop-q.q)
 
   -- behind either call
-  turned : (c : Joined-inner-eq1 t) → (c.if-inner-eq1.written ≡ point_count (limits_in (inner_of c.args.loops.now)))
+  turned : (c : Joined-inner-eq1 t) → (c.if-inner-eq1.written ≡ point_count (loop_limits (inner_of c.args.loops.now)))
       × WalkedTo c.args.loops.now c.args.prefix (loops t (goal.at.Joined-inner-eq1 t c).Start).split c.args.keys.now (first_held c.args.prefix (outer_of c.args.loops.now).lower) (c.loop-q.q + 1) (c.loop-q.written + c.if-inner-eq1.written) c.if-inner-eq1.keys
   turned c =
       let i = (goal.at.Joined-inner-eq1 t c).In-loop-q in
@@ -143,7 +143,7 @@ module _ (t : ℕ) where
       let ls = c.args.loops.now in
       let f = first_held c.args.prefix (outer_of ls).lower in
       let n = (o.next c.loop-q.q (below t i)).is ∙ ap (λ (z : ℤ). z +ℤ pos c.loop-q.q) (sym o.first.is) in
-      let Out : ℕ → List ℤ → Type 0 = λ r cur. (r ≡ point_count (limits_in (inner_of ls))) × WalkedTo ls c.args.prefix o.split c.args.keys.now f (c.loop-q.q + 1) (c.loop-q.written + r) cur in
+      let Out : ℕ → List ℤ → Type 0 = λ r cur. (r ≡ point_count (loop_limits (inner_of ls))) × WalkedTo ls c.args.prefix o.split c.args.keys.now f (c.loop-q.q + 1) (c.loop-q.written + r) cur in
       elim c.if-inner-eq1.branch [
         | then-inner-eq1 w ↦
             let e = one-inside ls w.if-inner-eq1.true in
@@ -166,7 +166,7 @@ loop-q-preserved t c =
     record { within = omega (arith, c.loop-q-test.true); written_so_far = w.0; table = w.1 }
 
 module _ (t : ℕ) where
-  done : (c : After-loop-q t) → (c.loop-q.written ≡ point_count (limits_in c.args.loops.now)) × (c.loop-q.keys ≡ map (key_from c.args.prefix) (points (limits_in c.args.loops.now)) ++ drop (point_count (limits_in c.args.loops.now)) c.args.keys.now)
+  done : (c : After-loop-q t) → (c.loop-q.written ≡ point_count (loop_limits c.args.loops.now)) × (c.loop-q.keys ≡ map (key_from c.args.prefix) (points (loop_limits c.args.loops.now)) ++ drop (point_count (loop_limits c.args.loops.now)) c.args.keys.now)
   done c =
       let o = loops t (goal.at.After-loop-q t c).Start in
       walk_out c.args.loops.now c.args.prefix o.split c.args.keys.now (first_held c.args.prefix (outer_of c.args.loops.now).lower) c.extent_of-count.result c.loop-q.q c.loop-q.written c.loop-q.keys

@@ -6,7 +6,7 @@ use Rattle.nest.specs.Nest.{depth_of, limit_at, limits_of, max_depth}
 use Rattle.nest.specs.Points.{points, point_count}
 use Rattle.nest.proofs.Accepted.{depth_is}
 use Rattle.sources.specs.Keys.{key_from}
-use Rattle.sources.specs.Loops.{limit_of, limits_in}
+use Rattle.sources.specs.Loops.{limit_of, loop_limits}
 use Rattle.sources.proofs.Arrays.{power-some}
 use Rattle.sources.proofs.Walk.{all-limits, all-fine, all-count, all-keys}
 use Rattle.sources.proofs.keys_into.Goals as goal
@@ -20,7 +20,7 @@ places c =
     length-take-le c.depth-n.result c.loops_of-loops.result (omega (arith, n, c.depth-n.ensures, (depth_is s.nest s.accepted).1)) ∙ c.depth-n.ensures
 
 -- so the loops are those of the nest
-limits : (c : After-depth-n) → limits_in (take c.depth-n.result c.loops_of-loops.result) ≡ limits_of c.args.s.now.nest
+limits : (c : After-depth-n) → loop_limits (take c.depth-n.result c.loops_of-loops.result) ≡ limits_of c.args.s.now.nest
 limits c = all-limits c.args.s.now.nest c.loops_of-loops.result c.loops_of-loops.ensures c.depth-n.result c.depth-n.ensures (depth_is c.args.s.now.nest c.args.s.now.accepted).1
 
 pub slice_bounds-loops-end : goal.slice_bounds-loops-end
