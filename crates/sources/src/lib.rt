@@ -20,6 +20,7 @@ ghost use Rattle.sources.specs.Loops.{limit_of, loop_limits};
 pub use crate::keyed_nest::KeyedNest;
 pub use crate::seeking::Sources;
 use nest::{AcceptedNest, LoopNest};
+use std::array;
 
 // Components are digits in this base.
 const BASE: i64 = 4096;
@@ -134,14 +135,10 @@ fn keys_from(loops: &[Limits], prefix: i64, keys: &mut [i64]) -> usize
 fn loops_of(s: &AcceptedNest) -> [Limits; LoopNest::MAX_DEPTH]
     ensures { map limit_of result ≡ tab (limit_at s.now.nest.lower s.now.nest.upper) max_depth }
 {
-    let mut loops = [Limits { lower: 0, upper: 0 }; LoopNest::MAX_DEPTH];
-    for (k, limits) in loops.iter_mut().enumerate() {
-        *limits = Limits {
-            lower: s.nest.lower[k],
-            upper: s.nest.upper[k],
-        };
-    }
-    loops
+    array::from_fn(|k| Limits {
+        lower: s.nest.lower[k],
+        upper: s.nest.upper[k],
+    })
 }
 
 // The keys of all index points of an accepted nest, in loop order, into a table.

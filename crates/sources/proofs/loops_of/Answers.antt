@@ -1,24 +1,17 @@
--- `loops_of` meets its contract. Assumes nothing.
-use Rattle.std.proofs.Common.{◌≡◌, refl, ◌∙◌, ap, ap₂, arith, ℤ, pos, get_or, set, replicate}
-use Rattle.integers.specs.Lists.{tab}
-use Rattle.integers.proofs.Bounds.{told}
+-- `loops_of` meets its contract: the closure gives the limits at each place. Assumes nothing.
+use Rattle.std.proofs.Common.{◌≡◌, rules, ℕ, zero, suc, ◌<◌, sym, ◌∙◌, arith, get_or}
+use Rattle.integers.proofs.Lists.{tab-list}
 use Rattle.nest.specs.Nest.{max_depth}
-use Rattle.sources.proofs.Walk.{no_loop, filled_more, filled-all, places_of, all-places}
+use Rattle.sources.proofs.Walk.{no_loop, places_of, all-places}
 use Rattle.sources.proofs.loops_of.Goals as goal
+use Rattle.sources.proofs.loops_of.Goals.{After-from_fn}
 
-pub loop-k-init : goal.loop-k-init
-unfolding tab
-loop-k-init c = refl
-
-pub loop-k-preserved : goal.loop-k-preserved
-loop-k-preserved c =
-    let s = c.args.s.now.nest in
-    let k = c.loop-k.k in
-    ap₂ (λ (l u : ℤ). set c.loop-k.limits-items k (record { lower = l; upper = u })) (told (get_or s.lower k (pos 0)) c.limits-in-loop-k-1.given) (told (get_or s.upper k (pos 0)) c.limits-in-loop-k-2-1.given)
-    ∙ filled_more no_loop (replicate max_depth no_loop) c.loop-k.limits-items (places_of s) k c.loop-k-test.true c.loop-k.invariant
+at : (c : After-from_fn) (k : ℕ) → k < max_depth → places_of c.args.s.now.nest k ≡ get_or c.from_fn.result k no_loop
+at c zero h = let t = c.from_fn.ensures.items.each in let e : t.1 ≡ places_of c.args.s.now.nest 0 = search rules in sym (t.2.1 no_loop ∙ e)
+at c (suc zero) h = let t = c.from_fn.ensures.items.each in let e : t.4.1 ≡ places_of c.args.s.now.nest 1 = search rules in sym (t.4.2.1 no_loop ∙ e)
+at c (suc (suc zero)) h = let t = c.from_fn.ensures.items.each in let e : t.4.4.1 ≡ places_of c.args.s.now.nest 2 = search rules in sym (t.4.4.2.1 no_loop ∙ e)
+at c (suc (suc (suc zero))) h = let t = c.from_fn.ensures.items.each in let e : t.4.4.4.1 ≡ places_of c.args.s.now.nest 3 = search rules in sym (t.4.4.4.2.1 no_loop ∙ e)
+at c (suc (suc (suc (suc k)))) h = absurd (omega arith)
 
 pub returns : goal.returns
-returns c =
-    let s = c.args.s.now.nest in
-    let n : c.loop-k.k ≡ max_depth = omega (arith, c.loop-k-test.false) in
-    all-places s c.loop-k.limits-items (filled-all no_loop (replicate max_depth no_loop) c.loop-k.limits-items (places_of s) c.loop-k.k c.loop-k-test.false c.loop-k.invariant ∙ ap (tab (places_of s)) n)
+returns c = all-places c.args.s.now.nest c.from_fn.result (sym (tab-list (places_of c.args.s.now.nest) c.from_fn.result no_loop max_depth c.from_fn.ensures.items.long (at c)))
