@@ -45,22 +45,6 @@ module _ (ks distances : List ℤ) (m : ℕ) where
   pub behind-start : (n : ℕ) → Behind ks distances 0 m (replicate n 0)
   behind-start n i h = let e = at_front n i in omega arith
 
-  -- one goes forward to its place
-  pub behind-set : (k i : ℕ) (cursors : List ℕ) → Behind ks distances k m cursors → Behind ks distances k m (set cursors i (not_below (target_in ks k (get_or distances i (pos 0))) ks))
-  behind-set k i cursors b j h =
-      let c = not_below (target_in ks k (get_or distances i (pos 0))) ks in
-      split (eqb j i)
-      (λ t. let e : j ≡ i = eqb-true j i t in subst (λ x. get_or (set cursors i c) x 0 ≤ not_below (target_in ks k (get_or distances x (pos 0))) ks) (sym e) (here (subst (λ x. get_or cursors x 0 ≤ not_below (target_in ks k (get_or distances x (pos 0))) ks) e (b j h))))
-      (λ t. let e = get_or-set_other cursors i j c 0 (eqb-false j i t) in let l = b j h in omega (arith, e))
-    where
-      here : get_or cursors i 0 ≤ not_below (target_in ks k (get_or distances i (pos 0))) ks
-          → get_or (set cursors i (not_below (target_in ks k (get_or distances i (pos 0))) ks)) i 0 ≤ not_below (target_in ks k (get_or distances i (pos 0))) ks
-      here l =
-          let c = not_below (target_in ks k (get_or distances i (pos 0))) ks in
-          ⊎_elim (λ (a : i < length cursors). let e = get_or-set_same cursors i c 0 a in omega (arith, e))
-          (λ (a : length cursors ≤ i). let e = ap (λ (x : List ℕ). get_or x i 0) (set_out cursors i c a) in omega (arith, e))
-          (below_or_not i (length cursors))
-
   -- and the next iteration's place is no earlier
   pub behind_more : (k : ℕ) (cursors : List ℕ) → Increasing ks → k + 1 < length ks → Behind ks distances k m cursors → Behind ks distances (k + 1) m cursors
   behind_more k cursors up h b i l =
@@ -72,17 +56,8 @@ module _ (ks distances : List ℤ) (m : ℕ) where
       let c = b i l in
       omega arith
 
--- what is found as a place, n where it is none of n
-pub found-place : (o : Option ℕ) (n source : ℕ) → MatchOption o (source ≡ n) (λ j. (j < n) × (j ≡ source)) → unwrap_or o n ≡ source
-found-place None n source h = sym h
-found-place (Some j) n source h = h.1
-
 -- ---- an accepted nest
 module _ (s : LoopNest) (ok : refusal s ≡ 0) where
-  -- the front of the table that `keys_into` writes
-  pub keys-front : (new rest : List ℤ) (n : ℕ) → new ≡ keys_of s ++ rest → n ≡ length (points_of s) → (n ≤ length new) × (take n new ≡ keys_of s)
-  keys-front new rest n e h = (omega (arith, keys_length s, ap length e ∙ length-append (keys_of s) rest), ap (take n) e ∙ take_at (keys_of s) rest n (keys_length s ∙ sym h))
-
   -- the key of a vector of the nest's depth
   pub key-most : (v : Vector) → length v ≡ depth_of s → AllWithin max_limit v → nat_abs (key v) ≤ max_key
   key-most v e w =
@@ -147,10 +122,6 @@ module _ (s : LoopNest) (keys : List ℤ) (m : ℕ) (distances : List ℤ) (K : 
   -- there is a key for each iteration
   pub keyed-length : length keys ≡ length (points_of s)
   keyed-length = ap length K.keys_are ∙ keys_length s
-
-  -- the keys increase
-  pub keyed_increase : Increasing keys
-  keyed_increase = subst Increasing (sym K.keys_are) (nest-keys_increase s K.accepted)
 
   -- sources can be searched for
   pub keyed_search : (i : ℕ) → i < m → Searchable keys (get_or distances i (pos 0))

@@ -1,5 +1,5 @@
--- Keys are in the order of the vectors, no two vectors have one key, the key of a difference is the difference of the keys, and keys that are one apart are those
--- of neighbours in a row: for vectors of any one length whose components are below half the base. Assumes nothing.
+-- Keys are in the order of the vectors, no two vectors have one key, and the key of a difference is the difference of the keys: for vectors of any one length
+-- whose components are below half the base. Assumes nothing.
 use mathlib.Core.Path.{◌≡◌, refl, sym, ap, ap₂, subst, ◌∙◌}
 use mathlib.Core.Logic.{◌⊎◌, inl, inr}
 use mathlib.Core.List.{[], ◌∷◌, ◌++◌}
@@ -132,32 +132,3 @@ key-minus (x ∷ v) (y ∷ w) e =
     ∙ ap₂ (λ (m : ℕ) (k : ℤ). (x +ℤ negsuc 0 *ℤ y) *ℤ weight m +ℤ k) l (key-minus v w n)
     ∙ ring (x ∷ y ∷ weight (length v) ∷ key v ∷ key w ∷ []) ((var 0 ⊕ con (negsuc 0) ⊗ var 1) ⊗ var 2 ⊕ (var 3 ⊖ var 4)) (var 0 ⊗ var 2 ⊕ var 3 ⊖ (var 1 ⊗ var 2 ⊕ var 4)) tt
     ∙ ap₂ (λ (a b : ℤ). a -ℤ b) (sym (key-cons x v)) (ap (λ m. y *ℤ weight m +ℤ key w) n ∙ sym (key-cons y w))
-
--- ---- neighbours in a row
-
--- no digit but zeros
-key-zeros : (n : ℕ) → key (zeros n) ≡ pos 0
-unfolding key key_from
-key-zeros zero = refl
-key-zeros (suc n) = key-cons (pos 0) (zeros n) ∙ ap (λ (k : ℤ). pos 0 *ℤ weight (length (zeros n)) +ℤ k) (key-zeros n) ∙ ring (weight (length (zeros n)) ∷ []) (con (pos 0) ⊗ var 0 ⊕ con (pos 0)) (con (pos 0)) tt
-
--- the vector of n zeros and a 1 behind them
-abbrev pub last_unit : ℕ → Vector
-last_unit n = zeros n ++ (pos 1 ∷ [])
-
--- it has the key 1
-last-key : (n : ℕ) → key (last_unit n) ≡ pos 1
-unfolding key
-last-key n = key_snoc (pos 0) (zeros n) (pos 1) ∙ ap (λ (k : ℤ). k *ℤ pos base +ℤ pos 1) (unfold key in key-zeros n)
-
--- its components are small
-last_within : (A n : ℕ) → 1 ≤ A → AllWithin A (last_unit n)
-last_within A zero h = (omega arith, tt)
-last_within A (suc n) h = (omega arith, last_within A n h)
-
--- where the keys are one apart, the vectors are so in the last component, and equal in the others
-pub key_next : (A : ℕ) → 1 ≤ A → A + A + (A + A) < base → (n : ℕ) (v w : Vector) → length v ≡ suc n → length w ≡ suc n → AllWithin A v → AllWithin A w → key w -ℤ key v ≡ pos 1 → minus w v ≡ last_unit n
-key_next A o h n v w lv lw av aw e =
-    let l : length (minus w v) ≡ suc n = length-plus w (times (negsuc 0) v) (suc n) lw (length-times (negsuc 0) v ∙ lv) in
-    let m : length (last_unit n) ≡ suc n = length-append (zeros n) (pos 1 ∷ []) ∙ omega (arith, length-replicate n (pos 0)) in
-    key_injective (A + A) h (minus w v) (last_unit n) (l ∙ sym m) (all-minus A A w v aw av) (last_within (A + A) n (omega arith)) (key-minus w v (lw ∙ sym lv) ∙ e ∙ sym (last-key n))

@@ -8,9 +8,12 @@ use lib.ListN.{length, get_or, set, take, drop}
 use mir.Facts.{to_z_pos}
 use mir.Syntax.{w64}
 use mir.Val.{to_z}
-use Rattle.std.proofs.Common.{FitsSigned, false}
+use lib.Signed.{◌≤ℤ◌, lt_z}
+use Rattle.std.proofs.Common.{FitsSigned, true, false}
 use Rattle.integers.specs.Lists.{any, tab}
 use Rattle.integers.specs.Vector.{AllWithin}
+use Rattle.integers.proofs.Linear.{ints, sum, dif, sizes}
+use Rattle.integers.proofs.Tests.{signed}
 use Rattle.integers.proofs.Machine.{reads, Given, Within, fits, fits_g, read, read_g}
 use Rattle.integers.proofs.Solver.{var, con, ◌⊕◌, ◌⊖◌, ◌⊗◌}
 use Rattle.integers.proofs.Vector.{get_or-within, all_wider}
@@ -91,6 +94,32 @@ later_key f first q e h l =
     let g : Given μ ρ β = ((e, h), ((to_z_pos w64 (omega arith), l), tt)) in
     record { sum = fits_g μ ρ β (var 0 ⊕ var 1) g tt; is = read_g μ ρ β (var 0 ⊕ var 1) g tt }
 
+-- ---- n prefixes one after the other, from f on, up to e: one of them, b, and the one behind it
+pub record NextPrefix (f b e : ℤ) (n : ℕ) : Type 0 where
+  -- so many are before it
+  pub is : b ≡ f +ℤ pos (nat_abs (b -ℤ f))
+  pub fewer : nat_abs (b -ℤ f) < n
+  pub from : f ≤ℤ reads (b +ℤ pos 1)
+  pub to : reads (b +ℤ pos 1) ≤ℤ e
+  pub more : nat_abs (reads (b +ℤ pos 1) -ℤ f) ≡ nat_abs (b -ℤ f) + 1
+
+module _ (f b e : ℤ) (n : ℕ) (h : nat_abs f ≤ max_key) (m : n ≤ max_iterations) (w : e ≡ f +ℤ pos n) (l : f ≤ℤ b) where
+  pub next_one : lt_z b e ≡ true → NextPrefix f b e n
+  next_one t =
+      let x = b +ℤ pos 1 in
+      let r : reads x ≡ x = read (x ∷ []) ((max_key + max_iterations) ∷ []) (var 0) (omega (signed, sum b (pos 1), sizes x, sizes f, sum f (pos n)), tt) tt in
+      record {
+        is = omega (ints, dif b f, sizes (b -ℤ f), sum f (pos (nat_abs (b -ℤ f))));
+        fewer = omega (signed, dif b f, sizes (b -ℤ f), sum f (pos n));
+        from = omega (ints, r, sum b (pos 1));
+        to = omega (signed, r, sum b (pos 1), sum f (pos n));
+        more = ap (λ (z : ℤ). nat_abs (z -ℤ f)) r ∙ omega (ints, dif b f, sizes (b -ℤ f), sum b (pos 1), dif x f, sizes (x -ℤ f));
+      }
+
+  -- behind the last, all are before it
+  pub none_left : b ≤ℤ e → lt_z b e ≡ false → nat_abs (b -ℤ f) ≡ n
+  none_left u t = omega (signed, dif b f, sizes (b -ℤ f), sum f (pos n))
+
 -- ---- limits that are not crossed
 pub record FineLimits (l : Limits) : Type 0 where
   pub lower_size : nat_abs l.lower ≤ max_limit
@@ -109,8 +138,9 @@ pub record Loops (ls : List Limits) (a : ℤ) : Type 0 where
   pub split : Split ls
   pub fine : FineLimits (outer_of ls)
   pub first : FirstKey a (outer_of ls).lower (max_depth - length ls)
+  -- behind the last index
+  pub last : LaterKey (first_held a (outer_of ls).lower) (a *ℤ pos base +ℤ (outer_of ls).lower) (extent (limit_of (outer_of ls)))
   -- with one index more
-  pub next : (q : ℕ) → q < extent (limit_of (outer_of ls)) → LaterKey (first_held a (outer_of ls).lower) (a *ℤ pos base +ℤ (outer_of ls).lower) q
   pub next_size : (q : ℕ) → q < extent (limit_of (outer_of ls)) → nat_abs ((a *ℤ pos base +ℤ (outer_of ls).lower) +ℤ pos q) + nat_abs ((a *ℤ pos base +ℤ (outer_of ls).lower) +ℤ pos q) < base ^ (max_depth - length (inner_of ls))
 
 pub some_loops : (ls : List Limits) (a : ℤ) → 1 ≤ length ls → length ls ≤ max_depth → nat_abs a + nat_abs a < base ^ (max_depth - length ls) → any crossed (loop_limits ls) ≡ false → Loops ls a
@@ -124,7 +154,7 @@ some_loops ls a h m p f =
       split = S;
       fine = l;
       first = F;
-      next = λ q b. later_key (first_held a (outer_of ls).lower) (a *ℤ pos base +ℤ (outer_of ls).lower) q F.is F.most (omega (arith, l.few));
+      last = later_key (first_held a (outer_of ls).lower) (a *ℤ pos base +ℤ (outer_of ls).lower) (extent (limit_of (outer_of ls))) F.is F.most l.few;
       next_size = λ q b. rw (← e) (next_prefix ls a S [] k q b p);
     }
 

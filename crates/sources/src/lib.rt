@@ -58,7 +58,7 @@ pub fn vector_at(key: i64, n: usize) -> [i64; LoopNest::MAX_DEPTH]
 {
     let mut v = [0i64; LoopNest::MAX_DEPTH];
     let mut rest = key;
-    // Kept: of what is written through `v[..n].iter_mut().rev()` a proof learns nothing.
+    // Kept: through `v[..n].iter_mut().rev()` a proof learns nothing of what is written.
     for k in (0..n).rev() {
         let above = above_digit(rest);
         v[k] = rest - above * BASE;
@@ -117,10 +117,9 @@ fn keys_from(loops: &[Limits], prefix: i64, keys: &mut [i64]) -> usize
         return row_from(outer, prefix, keys);
     }
     let first = prefix * BASE + outer.lower;
-    let count = nest::extent_of(outer.lower, outer.upper) as usize;
+    let end = first + nest::extent_of(outer.lower, outer.upper) as i64;
     let mut written = 0;
-    for q in 0..count {
-        let behind = first + q as i64;
+    for behind in first..end {
         let rest = &mut keys[written..];
         written += if inner.len() == 1 {
             row_from(inner[0], behind, rest)

@@ -31,8 +31,8 @@ fn seek(keys: &[i64], from: usize, target: i64) -> usize
     ensures { result ≡ not_below target keys.now }
 {
     let mut place = from;
-    // Kept: the place is there, and `position` tests for the table's end too: steps took a third
-    // longer with it.
+    // Kept: the answer of `position` is an Option, whose arm for none is never met here; with it
+    // steps took a third longer.
     while keys[place] < target {
         place += 1;
     }
