@@ -71,11 +71,11 @@ module _ (s : LoopNest) (ok : refusal s ≡ 0) (i : ℤ) (there : outside (limit
   pub all-points : length (points_of s) ≡ extent (limit s 0) * width
   all-points = ap length points_are ∙ point-count (limit s 0 ∷ (outer s ok).inner) ∙ (unfold point_count in refl)
 
-  -- the numbers that the code works with: how far the highest index and the row's are from the lowest
-  pub width_is : (e : ℕ) → e ≡ to_ℕ ((limit s 0).upper -ℤ (limit s 0).lower) → length (points_of s) / (e + 1) ≡ width
+  -- divided by the number of outermost indices
+  pub width_is : (e : ℕ) → e ≡ extent (limit s 0) → length (points_of s) / e ≡ width
   width_is e q =
-      let x : extent (limit s 0) ≡ e + 1 = extent-distance (limit s 0).lower (limit s 0).upper (≤_trans (limit s 0).lower i (limit s 0).upper low high) ∙ ap (λ n. n + 1) (sym q) in
-      ap (λ n. n / (e + 1)) (all-points ∙ ap (λ n. n * width) x) ∙ NatL.mul-div_cancel_left width {n = e + 1} (omega arith)
+      let x = extent-distance (limit s 0).lower (limit s 0).upper (≤_trans (limit s 0).lower i (limit s 0).upper low high) in
+      ap (λ n. n / e) (all-points ∙ ap (λ n. n * width) (sym q)) ∙ NatL.mul-div_cancel_left width {n = e} (omega (arith, q, x))
 
   -- the row ends within the points
   pub row_fits : row_start s i + row_length s i ≤ length (points_of s)

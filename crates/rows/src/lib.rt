@@ -26,7 +26,7 @@ pub fn locate(s: LoopNest, entries: usize, index: i64) -> Result<RowSpan, Refusa
     if nest::is_outside(lowest, highest, index) {
         return Err(Refusal::NoSuchRow);
     }
-    let length = accepted.iterations / (nest::distance(lowest, highest) as usize + 1);
+    let length = accepted.iterations / nest::extent_of(lowest, highest) as usize;
     let place = nest::distance(lowest, index) as usize;
     Ok(RowSpan {
         start: place * length,

@@ -1,27 +1,27 @@
 -- `locate` meets its contract: one law of `SpanLaws` for each way out. Assumes nothing.
 use mathlib.Core.Path.{◌≡◌, sym, ap, ap₂, ◌∙◌}
 use mathlib.Core.Bool.{false}
-use Prim.Native.Nat.{◌+◌, ◌*◌, ◌/◌, ◌≤◌}
+use Prim.Native.Nat.{◌*◌, ◌/◌, ◌≤◌}
 use native.Mathlib.Omega.{arith}
 use lib.IntN.{ℤ, ◌-ℤ◌}
 use lib.ListN.{length}
 use Rattle.std.proofs.Common.{rules}
 use Rattle.integers.proofs.Machine.{reads}
 use Rattle.nest.specs.Nest.{to_ℕ}
-use Rattle.nest.specs.Points.{points_of}
+use Rattle.nest.specs.Points.{extent, points_of}
 use Rattle.nest.specs.Outcomes.{code, number_in}
 use Rattle.nest.specs.Refusals.{refusal, outside, limit}
 use Rattle.nest.proofs.Accepted.{depth_is, not_crossed}
 use Rattle.nest.proofs.Outcomes.{code-above, refused-above}
 use Rattle.nest.proofs.Entries.{one-room, short_number, enough}
 use Rattle.nest.proofs.PointLaws.{few-points}
-use Rattle.nest.proofs.Counted.{extent-distance, extent-within}
+use Rattle.nest.proofs.Counted.{extent-distance}
 use Rattle.nest.proofs.Conditions.{Uncrossed, uncrossed, in_span}
 use Rattle.rows.specs.Rows.{Span, row_start, row_length}
 use Rattle.rows.proofs.RowLaws.{start-at, length_at, width_is, row_fits}
 use Rattle.rows.proofs.SpanLaws.{bad_nest, short_table, no_row, found_row, span_out}
 use Rattle.rows.proofs.locate.Goals as goal
-use Rattle.rows.proofs.locate.Goals.{After-branch-check_room, After-distance, After-distance-place, After-is_outside, Else-is_outside}
+use Rattle.rows.proofs.locate.Goals.{After-branch-check_room, After-extent_of, After-distance-place, After-is_outside, Else-is_outside}
 
 -- ---- what is known at each place
 accepted : (c : After-branch-check_room) → refusal c.args.s ≡ 0
@@ -61,21 +61,23 @@ limits c =
 there : (c : Else-is_outside) → outside (limit c.args.s 0).lower (limit c.args.s 0).upper c.args.index ≡ false
 there c = sym (test (goal.at.Else-is_outside c).After-is_outside) ∙ c.if-is_outside.false
 
--- how far the highest index is from the lowest
-far : (c : After-distance) → c.distance.result ≡ to_ℕ ((limit c.args.s 0).upper -ℤ (limit c.args.s 0).lower)
-far c = c.distance.ensures ∙ cc (highest (goal.at.After-distance c).After-is_outside, lowest (goal.at.After-distance c).After-is_outside)
+-- how many outermost indices there are
+many : (c : After-extent_of) → c.extent_of.result ≡ extent (limit c.args.s 0)
+many c = rw (lowest (goal.at.After-extent_of c).After-is_outside, highest (goal.at.After-extent_of c).After-is_outside) at c.extent_of.ensures
 
 -- how far the row's index is
 place : (c : After-distance-place) → c.distance-place.result ≡ to_ℕ (c.args.index -ℤ (limit c.args.s 0).lower)
 place c = c.distance-place.ensures ∙ cc (index (goal.at.After-distance-place c).After-is_outside, lowest (goal.at.After-distance-place c).After-is_outside)
 
 -- the row's length and start
-row-length : (c : After-distance-place) → c.in_ok-accepted.accepted.iterations / (c.distance.result + 1) ≡ row_length c.args.s c.args.index
+row-length : (c : After-distance-place) → c.in_ok-accepted.accepted.iterations / c.extent_of.result ≡ row_length c.args.s c.args.index
 row-length c =
     let a = c.args in
-    ap (λ n. n / (c.distance.result + 1)) (count (goal.at.After-distance-place c).After-branch-check_room) ∙ width_is a.s (accepted (goal.at.After-distance-place c).After-branch-check_room) a.index (there (goal.at.After-distance-place c).Else-is_outside) c.distance.result (far (goal.at.After-distance-place c).After-distance) ∙ sym (length_at a.s (accepted (goal.at.After-distance-place c).After-branch-check_room) a.index (there (goal.at.After-distance-place c).Else-is_outside))
+    let ok = accepted (goal.at.After-distance-place c).After-branch-check_room in
+    let h = there (goal.at.After-distance-place c).Else-is_outside in
+    ap (λ n. n / c.extent_of.result) (count (goal.at.After-distance-place c).After-branch-check_room) ∙ width_is a.s ok a.index h c.extent_of.result (many (goal.at.After-distance-place c).After-extent_of) ∙ sym (length_at a.s ok a.index h)
 
-row-start : (c : After-distance-place) → c.distance-place.result * (c.in_ok-accepted.accepted.iterations / (c.distance.result + 1)) ≡ row_start c.args.s c.args.index
+row-start : (c : After-distance-place) → c.distance-place.result * (c.in_ok-accepted.accepted.iterations / c.extent_of.result) ≡ row_start c.args.s c.args.index
 row-start c =
     let a = c.args in
     ap₂ (λ m n. m * n) (place c) (row-length c ∙ length_at a.s (accepted (goal.at.After-distance-place c).After-branch-check_room) a.index (there (goal.at.After-distance-place c).Else-is_outside)) ∙ sym (start-at a.s (accepted (goal.at.After-distance-place c).After-branch-check_room) a.index (there (goal.at.After-distance-place c).Else-is_outside))
@@ -85,17 +87,16 @@ returns-then-is_outside c =
     let a = c.args in
     sym (no_row a.s a.entries a.index (accepted (goal.at.returns-then-is_outside c).After-branch-check_room) (room (goal.at.returns-then-is_outside c).After-is_outside) (sym (test (goal.at.returns-then-is_outside c).After-is_outside) ∙ c.if-is_outside.true))
 
-pub distance-requires : goal.distance-requires
-distance-requires c =
-    let l = limits (goal.at.distance-requires c).After-is_outside in
-    rw (lowest (goal.at.distance-requires c).After-is_outside, highest (goal.at.distance-requires c).After-is_outside) l.order
+pub extent_of-requires : goal.extent_of-requires
+extent_of-requires c =
+    let p = (goal.at.extent_of-requires c).After-is_outside in
+    let ok = accepted (goal.at.extent_of-requires c).After-branch-check_room in
+    rw (lowest p, highest p) (not_crossed c.args.s ok 0 (depth_is c.args.s ok).0)
 
-pub overflow_add-length : goal.overflow_add-length
-overflow_add-length c =
-    let s = c.args.s in
-    let ok = accepted (goal.at.overflow_add-length c).After-branch-check_room in
-    let e = extent-distance (limit s 0).lower (limit s 0).upper (limits (goal.at.overflow_add-length c).After-is_outside).order in
-    omega (arith, far c, extent-within (limit s 0).lower (limit s 0).upper (not_crossed s ok 0 (depth_is s ok).0))
+pub nonzero_div-length : goal.nonzero_div-length
+nonzero_div-length c =
+    let p = (goal.at.nonzero_div-length c).After-extent_of in
+    omega (arith, many p, extent-distance (limit c.args.s 0).lower (limit c.args.s 0).upper (limits (goal.at.nonzero_div-length c).After-is_outside).order)
 
 pub distance-place-requires : goal.distance-place-requires
 distance-place-requires c =
