@@ -63,7 +63,7 @@ there c = sym (test (goal.at.Else-is_outside c).After-is_outside) ∙ c.if-is_ou
 
 -- how many outermost indices there are
 many : (c : After-extent_of) → c.extent_of.result ≡ extent (limit c.args.s 0)
-many c = rw (lowest (goal.at.After-extent_of c).After-is_outside, highest (goal.at.After-extent_of c).After-is_outside) at c.extent_of.ensures
+many c = c.extent_of.ensures ∙ ap₂ (λ (l u : ℤ). extent (record { lower = l; upper = u })) (lowest (goal.at.After-extent_of c).After-is_outside) (highest (goal.at.After-extent_of c).After-is_outside)
 
 -- how far the row's index is
 place : (c : After-distance-place) → c.distance-place.result ≡ to_ℕ (c.args.index -ℤ (limit c.args.s 0).lower)
