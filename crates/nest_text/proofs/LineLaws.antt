@@ -2,7 +2,7 @@
 -- Assumes nothing.
 use mathlib.Core.Path.{◌≡◌, refl, sym, ap, ◌∙◌}
 use mathlib.Core.Bool.{true, false, not}
-use mathlib.Core.List.{List, ◌++◌, append-nil}
+use mathlib.Core.List.{List, ◌++◌}
 use Prim.Native.Nat.{ℕ, ◌+◌, ◌*◌, ◌-◌, ◌≤◌, ◌<◌}
 use native.Mathlib.Omega.{arith}
 use borrow.Author.Tests.{eq-eqb, ne_eqb}
@@ -17,7 +17,6 @@ use Rattle.nest_text.specs.Fields.{Bytes, columns, newline, read_of}
 use Rattle.nest_text.specs.Text.{is_malformed, number_of, field_at, is_line, numbers_of}
 use Rattle.nest_text.specs.Reader.{max_fields, line_of}
 use Rattle.nest.proofs.Padding.{padded-none, padded-set}
-use Rattle.std.proofs.lemmas.List.{take-replicate, drop-replicate}
 
 -- a line of k fields has k numbers
 pub numbers-length : (k : ℕ) (bs : Bytes) → length (numbers_of k bs) ≡ k
@@ -26,22 +25,11 @@ numbers-length k bs = length-tab (λ i. number_of (field_at bs i)) k
 
 -- the first i fields of the line are numbers, and these are they, with zeros behind them
 abbrev pub LineRead : Bytes → ℕ → ℕ → List ℤ → Type 0
-LineRead bs k i numbers = (i ≤ k) × ((any is_malformed (tab (field_at bs) i) ≡ false) × (numbers ≡ padded k (numbers_of i bs)))
+LineRead bs k i numbers = (i ≤ k) × ((any is_malformed (tab (field_at bs) i) ≡ false) × (numbers ≡ padded max_fields (numbers_of i bs)))
 
 -- the zeros that a line begins with
 abbrev pub zeros : List ℤ
 zeros = replicate max_fields (pos 0)
-
--- so many of them
-pub length-zeros : (k : ℕ) → k ≤ max_fields → length (take k zeros) ≡ k
-length-zeros k h = length-take-le k zeros (omega arith)
-
--- k numbers followed by zeros, as they are held: in a part of k places, and behind it
-padded-parts : (k : ℕ) (ns : List ℤ) → length ns ≡ k → padded k ns ++ drop k zeros ≡ padded max_fields ns
-unfolding padded
-padded-parts k ns e =
-    let z : k - length ns ≡ 0 = omega arith in
-    rw (z, append-nil ns, drop-replicate k max_fields (pos 0), e) refl
 
 module _ (bs : Bytes) (k : ℕ) where
   -- a line that is not in form is answered so
@@ -73,20 +61,20 @@ module _ (bs : Bytes) (k : ℕ) where
   field_malformed i h e = malformed-line (rw (any-tab_found is_malformed (field_at bs) k i h (ap is_malformed e)) refl)
 
   -- before the first field
-  pub line-start : k ≤ max_fields → LineRead bs k 0 (take k zeros)
+  pub line-start : LineRead bs k 0 zeros
   unfolding numbers_of tab any
-  line-start h = (omega arith, (refl, take-replicate k max_fields (pos 0) h ∙ sym (padded-none k)))
+  line-start = (omega arith, (refl, sym (padded-none max_fields)))
 
   -- one field more
-  pub line-more : (i : ℕ) (numbers : List ℤ) (z : ℤ) → i < k → LineRead bs k i numbers → field_at bs i ≡ Some z → LineRead bs k (i + 1) (set numbers i z)
+  pub line-more : (i : ℕ) (numbers : List ℤ) (z : ℤ) → k ≤ max_fields → i < k → LineRead bs k i numbers → field_at bs i ≡ Some z → LineRead bs k (i + 1) (set numbers i z)
   unfolding numbers_of
-  line-more i numbers z h r e =
+  line-more i numbers z m h r e =
       let q : number_of (field_at bs i) ≡ z = ap number_of e in (
         omega arith,
         (
           any-tab-more is_malformed (field_at bs) i r.1.0 (ap is_malformed e),
           rw (r.1.1, tab-more (λ j. number_of (field_at bs j)) i, q)
-              (padded-set k (tab (λ j. number_of (field_at bs j)) i) i z (length-tab (λ j. number_of (field_at bs j)) i) h),
+              (padded-set max_fields (tab (λ j. number_of (field_at bs j)) i) i z (length-tab (λ j. number_of (field_at bs j)) i) (omega arith)),
         ),
       )
 
@@ -96,10 +84,8 @@ module _ (bs : Bytes) (k : ℕ) where
   ended g e = rw (g, eq-eqb (get_or bs (columns * k) 0) newline e) refl
 
   -- all fields
-  pub line_end : (i : ℕ) (numbers : List ℤ) → LineRead bs k i numbers → k ≤ i → get_or bs (columns * k) 0 ≡ newline → Some (numbers ++ drop k zeros) ≡ line_of k bs
+  pub line_end : (i : ℕ) (numbers : List ℤ) → LineRead bs k i numbers → k ≤ i → get_or bs (columns * k) 0 ≡ newline → Some numbers ≡ line_of k bs
   unfolding line_of
   line_end i numbers r h e =
       let q : i ≡ k = omega arith in
-      rw (ended (rw q at r.1.0) e, line_of)
-      (ap (λ (l : List ℤ). Some (l ++ drop k zeros)) (r.1.1 ∙ ap (λ j. padded k (numbers_of j bs)) q)
-      ∙ ap (λ (l : List ℤ). Some l) (padded-parts k (numbers_of k bs) (numbers-length k bs)))
+      rw (ended (rw q at r.1.0) e, line_of) (ap (λ (l : List ℤ). Some l) (r.1.1 ∙ ap (λ j. padded max_fields (numbers_of j bs)) q))

@@ -80,14 +80,6 @@ pub fn read_field(f: &[u8]) -> Option<i64>
     signed(&f[blanks(f)..])
 }
 
-// The number at column `from` of a line: the field is handed on as a part of the line.
-pub fn field_at(line: &[u8], from: usize) -> Option<i64>
-    requires { from + columns ≤ length line.now }
-    ensures { result ≡ read_of (take columns (drop from line.now)) }
-{
-    read_field(&line[from..from + COLUMNS])
-}
-
 // The byte of a number's last digit.
 // Kept: char::from_digit answers an Option of a char, which is no plainer as a byte.
 pub fn digit_byte(n: u64) -> u8

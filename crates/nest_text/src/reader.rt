@@ -25,10 +25,9 @@ pub fn read_line(text: &[u8], k: usize) -> Option<Row>
     if *text.get(end)? != NEWLINE {
         return None;
     }
-    let line = &text[..end];
     let mut row = [0; MAX_FIELDS];
-    for (i, z) in row[..k].iter_mut().enumerate() {
-        *z = fields::field_at(line, COLUMNS * i)?;
+    for (i, field) in text[..end].chunks_exact(COLUMNS).enumerate() {
+        row[i] = fields::read_field(field)?;
     }
     Some(row)
 }
@@ -64,6 +63,7 @@ pub fn with_dependence_line(mut s: LoopNest, i: usize, row: &Row) -> LoopNest
 
 // The nest with the boundary values that its last line says: the first number for all dependences,
 // or one for each.
+// Kept: the layout, the nest and the row, as the definition of this name takes them.
 pub fn with_boundary_line(mut s: LoopNest, layout: Layout, row: &Row) -> LoopNest
     ensures { result ≡ with_boundary_line layout.dependences layout.last s row.now }
 {
@@ -78,6 +78,7 @@ pub fn with_boundary_line(mut s: LoopNest, layout: Layout, row: &Row) -> LoopNes
 }
 
 // The nest with the boundary values and the weights that its last line says.
+// Kept: the layout, the nest and the row, as the definition of this name takes them.
 pub fn with_last_line(s: LoopNest, layout: Layout, row: &Row) -> LoopNest
     ensures { result ≡ with_last_line layout.dependences layout.last s row.now }
 {
@@ -89,6 +90,7 @@ pub fn with_last_line(s: LoopNest, layout: Layout, row: &Row) -> LoopNest
 }
 
 // The nest with the numbers of line i, counted from 0, of those behind line 1.
+// Kept: the layout, the nest and the row, as the definition of this name takes them.
 pub fn with_line(s: LoopNest, layout: Layout, i: usize, row: &Row) -> LoopNest
     ensures { result ≡ with_line layout.loops layout.dependences layout.last s i row.now }
 {

@@ -14,6 +14,7 @@ use crate::{COLUMNS, NEWLINE};
 use nest::{AcceptedNest, LoopNest};
 
 // Writes numbers as fields, one after the other, and answers the place behind them.
+// Kept: it takes and answers a place, as `put_line` does.
 pub fn put_fields(out: &mut [u8], at: usize, numbers: &[i64]) -> usize
     requires { (at + columns * length numbers.now ≤ length out.old)
         × EachInColumns numbers.now 0 (length numbers.now) }
@@ -28,6 +29,9 @@ pub fn put_fields(out: &mut [u8], at: usize, numbers: &[i64]) -> usize
 }
 
 // Writes numbers as a line: their fields, and byte 10.
+// Kept: it is public, and is called with a buffer and a place, and answers the place behind. A
+// cursor that holds both is no plainer: each of its methods would have to say that it still holds
+// the same buffer.
 pub fn put_line(out: &mut [u8], at: usize, numbers: &[i64]) -> usize
     requires { (at + line_length (length numbers.now) ≤ length out.old)
         × EachInColumns numbers.now 0 (length numbers.now) }
@@ -39,6 +43,7 @@ pub fn put_line(out: &mut [u8], at: usize, numbers: &[i64]) -> usize
 }
 
 // Writes the limits of the loops, a line for each.
+// Kept: it takes and answers a place, as `put_line` does.
 pub fn put_limits(out: &mut [u8], at: usize, lower: &[i64], upper: &[i64]) -> usize
     requires { (at + line_length limit_width * length lower.now ≤ length out.old)
         × (length upper.now ≡ length lower.now)
@@ -55,6 +60,7 @@ pub fn put_limits(out: &mut [u8], at: usize, lower: &[i64], upper: &[i64]) -> us
 }
 
 // Writes m dependences of n components, a line for each.
+// Kept: it takes and answers a place, as `put_line` does.
 pub fn put_dependences(
     out: &mut [u8],
     at: usize,
@@ -76,6 +82,7 @@ pub fn put_dependences(
 }
 
 // Writes the last line: boundary values, and weights.
+// Kept: it takes and answers a place, as `put_line` does.
 pub fn put_last(out: &mut [u8], at: usize, boundaries: &[i64], weights: &[i64]) -> usize
     requires { (at + line_length (length boundaries.now + length weights.now) ≤ length out.old)
         × EachInColumns boundaries.now 0 (length boundaries.now)
