@@ -1,5 +1,7 @@
 // The vectors that are chosen for a time vector P, with those that give coordinates along them.
+ghost use Rattle.std.specs.Prelude.{◌≤◌};
 ghost use Rattle.grouping.specs.Framed.{FramedIn, FramedIn-prop};
+ghost use Rattle.grouping.specs.Limits.{max_group_size};
 
 use crate::MAX_CHOSEN;
 use numbering::Row;
@@ -14,4 +16,12 @@ pub struct Basis {
     pub d: i64,
     pub count: usize,
     ghost framed: { FramedIn p count vectors duals d } by { FramedIn-prop p count vectors duals d },
+}
+
+// A basis and the group size r by which coordinates along its grouping vector are divided.
+#[derive(Clone, Copy)]
+pub struct SizedBasis {
+    pub basis: Basis,
+    pub r: usize,
+    pub ghost size: { (1 ≤ r) × (r ≤ max_group_size) },
 }

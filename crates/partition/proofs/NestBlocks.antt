@@ -18,8 +18,8 @@ use Rattle.sources.specs.Keys.{digits, keys_of, source_in}
 use Rattle.sources.proofs.Arrays.{keys_length}
 use Rattle.sources.proofs.Cursors.{keys-most}
 use Rattle.sources.proofs.NestKeys.{point-within, digits-point}
-use Rattle.grouping.specs.declared.dual_basis.Basis.{Basis}
-use Rattle.grouping.specs.Basis.{Framed, vector_of, dual_of, chosen_in, basis_frame}
+use Rattle.grouping.specs.declared.dual_basis.SizedBasis.{SizedBasis}
+use Rattle.grouping.specs.Basis.{vector_of, dual_of, chosen_in, basis_frame}
 use Rattle.grouping.specs.Grouping.{Frame, Group, chosen_vectors, blocks, block_number}
 use Rattle.grouping.specs.Projection.{group_size}
 use Rattle.partition.specs.GroupRows.{groups_on, GroupTable}
@@ -74,10 +74,10 @@ module _ (s : LoopNest) (ok : refusal s ≡ 0) (before : ℕ → ℕ) (heads lin
   lines_rest : drop (length (points_of s)) lines ≡ drop (length (points_of s)) lines₀
   lines_rest = ap (drop (length (points_of s))) lines_are ∙ drop_at (lines_to before (length (points_of s))) (drop (length (points_of s)) lines₀) (length (points_of s)) (lines-length before (length (points_of s)))
 
-  module _ (f : Basis) (r : ℕ) (framed : Framed f) (time : f.p ≡ padded 4 (time_of s)) (chosen : chosen_in f ≡ map (padded 4) (chosen_vectors (time_of s) (dependences_of s)))
-      (size : r ≡ group_size (time_of s) (dependences_of s)) (distance : ℤ) (A : Apart f.p (depth_of s) distance) (by : before ≡ (λ k. source_in (keys_of s) k distance)) where
+  module _ (f : SizedBasis) (time : f.basis.p ≡ padded 4 (time_of s)) (chosen : chosen_in f.basis ≡ map (padded 4) (chosen_vectors (time_of s) (dependences_of s)))
+      (size : f.r ≡ group_size (time_of s) (dependences_of s)) (distance : ℤ) (A : Apart f.basis.p (depth_of s) distance) (by : before ≡ (λ k. source_in (keys_of s) k distance)) where
     abbrev F : Frame
-    F = basis_frame f r
+    F = basis_frame f
 
     -- the groups of the first iterations, as they are computed
     abbrev gs : List Group
@@ -94,7 +94,7 @@ module _ (s : LoopNest) (ok : refusal s ≡ 0) (before : ℕ → ℕ) (heads lin
 
     -- the number of blocks
     pub blocks-number : length (blocks gs) ≡ block_count s
-    blocks-number = ap (λ (l : List Group). length (blocks l)) gs_are ∙ heads-count s ok f.p f.count (vector_of f 0) (vector_of f 1) (vector_of f 2) (dual_of f 0) (dual_of f 1) (dual_of f 2) f.d r framed time chosen size (λ k. source_in (keys_of s) k distance) (line-projection s ok f.p time distance A)
+    blocks-number = ap (λ (l : List Group). length (blocks l)) gs_are ∙ heads-count s ok f.basis.p f.basis.count (vector_of f.basis 0) (vector_of f.basis 1) (vector_of f.basis 2) (dual_of f.basis 0) (dual_of f.basis 1) (dual_of f.basis 2) f.basis.d f.r f.basis.framed time chosen size (λ k. source_in (keys_of s) k distance) (line-projection s ok f.basis.p time distance A)
 
     -- their table
     pub blocks-table : (out : List ℕ) → out ≡ tab (λ k. block_number (blocks gs) (get_or gs (get_or lines k 0) no_group)) (length (points_of s)) ++ drop (length (points_of s)) lines
@@ -104,10 +104,10 @@ module _ (s : LoopNest) (ok : refusal s ≡ 0) (before : ℕ → ℕ) (heads lin
         ∙ ap (λ (l : List ℕ). l ++ drop (length (points_of s)) lines₀)
         (tab-same (λ k. block_number (blocks gs) (get_or gs (get_or lines k 0) no_group)) (λ k. block_number (blocks gs) (get_or gs (get_or (lines_to before (length (points_of s))) k 0) no_group)) (length (points_of s)) (λ k h. ap (λ (i : ℕ). block_number (blocks gs) (get_or gs i no_group)) (line_at k h))
         ∙ ap₂ (λ (l : List Group) (q : ℕ → ℕ). tab (λ k. block_number (blocks l) (get_or l (get_or (lines_to q (length (points_of s))) k 0) no_group)) (length (points_of s))) gs_are by
-        ∙ heads-numbers s ok f.p f.count (vector_of f 0) (vector_of f 1) (vector_of f 2) (dual_of f 0) (dual_of f 1) (dual_of f 2) f.d r framed time chosen size (λ k. source_in (keys_of s) k distance) (line-projection s ok f.p time distance A))
+        ∙ heads-numbers s ok f.basis.p f.basis.count (vector_of f.basis 0) (vector_of f.basis 1) (vector_of f.basis 2) (dual_of f.basis 0) (dual_of f.basis 1) (dual_of f.basis 2) f.basis.d f.r f.basis.framed time chosen size (λ k. source_in (keys_of s) k distance) (line-projection s ok f.basis.p time distance A))
 
     -- and their groups
-    pub blocks-groups : (U : List Vector) → GroupTable f.count (blocks gs) U → GroupTable (chosen_of s) (block_groups s) U
+    pub blocks-groups : (U : List Vector) → GroupTable f.basis.count (blocks gs) U → GroupTable (chosen_of s) (block_groups s) U
     blocks-groups U G =
-        subst (λ (k : ℕ). GroupTable k (block_groups s) U) (count_same s ok f.p f.count (vector_of f 0) (vector_of f 1) (vector_of f 2) (dual_of f 0) (dual_of f 1) (dual_of f 2) f.d r framed time chosen size)
-        (subst (λ (bs : List Group). GroupTable f.count bs U) (ap blocks gs_are ∙ heads-blocks s ok f.p f.count (vector_of f 0) (vector_of f 1) (vector_of f 2) (dual_of f 0) (dual_of f 1) (dual_of f 2) f.d r framed time chosen size (λ k. source_in (keys_of s) k distance) (line-projection s ok f.p time distance A)) G)
+        subst (λ (k : ℕ). GroupTable k (block_groups s) U) (count_same s ok f.basis.p f.basis.count (vector_of f.basis 0) (vector_of f.basis 1) (vector_of f.basis 2) (dual_of f.basis 0) (dual_of f.basis 1) (dual_of f.basis 2) f.basis.d f.r f.basis.framed time chosen size)
+        (subst (λ (bs : List Group). GroupTable f.basis.count bs U) (ap blocks gs_are ∙ heads-blocks s ok f.basis.p f.basis.count (vector_of f.basis 0) (vector_of f.basis 1) (vector_of f.basis 2) (dual_of f.basis 0) (dual_of f.basis 1) (dual_of f.basis 2) f.basis.d f.r f.basis.framed time chosen size (λ k. source_in (keys_of s) k distance) (line-projection s ok f.basis.p time distance A)) G)

@@ -5,14 +5,14 @@ ghost use Rattle.nest.specs.Nest.{max_dependences};
 ghost use Rattle.partition.specs.Partition.{chosen_of};
 ghost use Rattle.partition.specs.Sending.{Bounds, receivers_of};
 
-use crate::inputs::{basis_of, size_of};
+use crate::inputs::basis_of;
 use nest::{AcceptedNest, LoopNest, Refusal};
 
 // β of an accepted nest: how many vectors are chosen, the grouping vector among them.
 fn chosen_count(s: &AcceptedNest) -> usize
     ensures { result ≡ chosen_of s.now.nest }
 {
-    basis_of(s, size_of(s)).count
+    basis_of(s).basis.count
 }
 
 // 2m - β. Of the m dependences β are chosen, and along each of those a block sends to one other

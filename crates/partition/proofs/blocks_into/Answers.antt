@@ -25,11 +25,11 @@ keys-count : (d : Start) → length d.args.s.now.keys.now ≡ length (points_of 
 keys-count d = ap (λ (l : List ℤ). length l) d.args.s.now.keyed ∙ keys_length d.args.s.now.nest.now.nest
 
 pub line_distance-requires : goal.line_distance-requires
-line_distance-requires c = (c.basis_of-f.result.framed.small.0, omega (arith, c.depth-depth.ensures, (depth_is c.args.s.now.nest.now.nest c.args.s.now.nest.now.accepted).1))
+line_distance-requires c = (c.basis_of-f.result.basis.framed.small.0, omega (arith, c.depth-depth.ensures, (depth_is c.args.s.now.nest.now.nest c.args.s.now.nest.now.accepted).1))
 
 -- how far apart neighbours on a line are
-apart : (c : After-line_distance) → Apart c.basis_of-f.result.p (depth_of c.args.s.now.nest.now.nest) c.line_distance.result
-apart c = subst (λ (n : ℕ). Apart c.basis_of-f.result.p n c.line_distance.result) c.depth-depth.ensures c.line_distance.ensures
+apart : (c : After-line_distance) → Apart c.basis_of-f.result.basis.p (depth_of c.args.s.now.nest.now.nest) c.line_distance.result
+apart c = subst (λ (n : ℕ). Apart c.basis_of-f.result.basis.p n c.line_distance.result) c.depth-depth.ensures c.line_distance.ensures
 
 -- as the machine reads it
 distance_read : (c : After-line_distance) → reads c.line_distance.result ≡ c.line_distance.result
@@ -44,7 +44,7 @@ lines_into-count-requires c =
       omega (arith, f, k),
       omega (arith, f, k),
       omega (arith, k, c.requires.1),
-      subst₂ Searchable (sym c.args.s.now.keyed) (sym (distance_read d)) (line_searchable s c.args.s.now.nest.now.accepted c.basis_of-f.result.p c.basis_of-f.ensures.p_value.0 c.line_distance.result (apart d)),
+      subst₂ Searchable (sym c.args.s.now.keyed) (sym (distance_read d)) (line_searchable s c.args.s.now.nest.now.accepted c.basis_of-f.result.basis.p c.basis_of-f.ensures.p_value.0 c.line_distance.result (apart d)),
     )
 
 abbrev before : After-lines_into-count → ℕ → ℕ
@@ -86,37 +86,37 @@ invariant_of-lines c =
       };
     }
 
-pub group_lines-requires-clause-lines_given : goal.group_lines-requires-clause-lines_given
-group_lines-requires-clause-lines_given c =
-    let m = (goal.at.group_lines-requires-clause-lines_given c).After-lines_into-count in
-    let k = keys-count (goal.at.group_lines-requires-clause-lines_given c).Start in
+pub group_lines-requires : goal.group_lines-requires
+group_lines-requires c =
+    let m = (goal.at.group_lines-requires c).After-lines_into-count in
+    let k = keys-count (goal.at.group_lines-requires c).Start in
     record {
-      groups_long = omega (arith, few m, c.requires.0);
-      numbers_long = omega (arith, c.lines_into-count.auto.lines, k, c.requires.1);
-      line_low = λ i h. lines-low c.args.s.now.nest.now.nest c.args.s.now.nest.now.accepted (before m) (heads m) c.args.blocks.now (lines m) (heads_are m) (lines_are m) i (omega (arith, h, k));
+      lines_given = record {
+        groups_long = omega (arith, few m, c.requires.0);
+        numbers_long = omega (arith, c.lines_into-count.auto.lines, k, c.requires.1);
+        line_low = λ i h. lines-low c.args.s.now.nest.now.nest c.args.s.now.nest.now.accepted (before m) (heads m) c.args.blocks.now (lines m) (heads_are m) (lines_are m) i (omega (arith, h, k));
+      };
     }
 
 -- the groups of the first iterations
 same_groups : (m : After-lines_into-count)
-    → let F = basis_frame m.basis_of-f.result m.size_of-r.result in
+    → let F = basis_frame m.basis_of-f.result in
     groups_on F (points_by m.args.s.now.keys.now m.depth-depth.result (heads m)) ≡ groups_on F (points_by (keys_of m.args.s.now.nest.now.nest) (depth_of m.args.s.now.nest.now.nest) (heads m))
-same_groups m = ap₂ (λ (ks : List ℤ) (n : ℕ). groups_on (basis_frame m.basis_of-f.result m.size_of-r.result) (points_by ks n (heads m))) m.args.s.now.keyed m.depth-depth.ensures
+same_groups m = ap₂ (λ (ks : List ℤ) (n : ℕ). groups_on (basis_frame m.basis_of-f.result) (points_by ks n (heads m))) m.args.s.now.keyed m.depth-depth.ensures
 
 pub returns-clause-value : goal.returns-clause-value
 returns-clause-value c =
     let m = (goal.at.returns-clause-value c).After-lines_into-count in
     let f = c.basis_of-f in
-    let r = c.size_of-r in
     c.group_lines.ensures.made_is ∙ ap (λ (gs : List Group). length (blocks gs)) (same_groups m)
-    ∙ blocks-number c.args.s.now.nest.now.nest c.args.s.now.nest.now.accepted (before m) (heads m) c.args.blocks.now (lines m) (heads_are m) (lines_are m) f.result r.result f.result.framed f.ensures.p_value.0 f.ensures.p_value.1 r.ensures.0
+    ∙ blocks-number c.args.s.now.nest.now.nest c.args.s.now.nest.now.accepted (before m) (heads m) c.args.blocks.now (lines m) (heads_are m) (lines_are m) f.result f.ensures.p_value.0 f.ensures.p_value.1 f.ensures.size
     c.line_distance.result (apart (goal.at.returns-clause-value c).After-line_distance) (by m)
 
 pub returns-clause-blocks_after : goal.returns-clause-blocks_after
 returns-clause-blocks_after c =
     let m = (goal.at.returns-clause-blocks_after c).After-lines_into-count in
     let f = c.basis_of-f in
-    let r = c.size_of-r in
-    blocks-table c.args.s.now.nest.now.nest c.args.s.now.nest.now.accepted (before m) (heads m) c.args.blocks.now (lines m) (heads_are m) (lines_are m) f.result r.result f.result.framed f.ensures.p_value.0 f.ensures.p_value.1 r.ensures.0
+    blocks-table c.args.s.now.nest.now.nest c.args.s.now.nest.now.accepted (before m) (heads m) c.args.blocks.now (lines m) (heads_are m) (lines_are m) f.result f.ensures.p_value.0 f.ensures.p_value.1 f.ensures.size
     c.line_distance.result (apart (goal.at.returns-clause-blocks_after c).After-line_distance) (by m) c.group_lines.new.numbers
     (c.group_lines.ensures.numbers_are ∙ ap₂ (λ (gs : List Group) (n : ℕ). tab (λ i. block_number (blocks gs) (get_or gs (get_or (lines m) i 0) no_group)) n ++ drop n (lines m)) (same_groups m) (keys-count (goal.at.returns-clause-blocks_after c).Start))
 
@@ -124,7 +124,6 @@ pub returns-clause-group_table : goal.returns-clause-group_table
 returns-clause-group_table c =
     let m = (goal.at.returns-clause-group_table c).After-lines_into-count in
     let f = c.basis_of-f in
-    let r = c.size_of-r in
-    blocks-groups c.args.s.now.nest.now.nest c.args.s.now.nest.now.accepted (before m) (heads m) c.args.blocks.now (lines m) (heads_are m) (lines_are m) f.result r.result f.result.framed f.ensures.p_value.0 f.ensures.p_value.1 r.ensures.0
+    blocks-groups c.args.s.now.nest.now.nest c.args.s.now.nest.now.accepted (before m) (heads m) c.args.blocks.now (lines m) (heads_are m) (lines_are m) f.result f.ensures.p_value.0 f.ensures.p_value.1 f.ensures.size
     c.line_distance.result (apart (goal.at.returns-clause-group_table c).After-line_distance) (by m) c.group_lines.new.groups
-    (subst (λ (gs : List Group). GroupTable f.result.count (blocks gs) c.group_lines.new.groups) (same_groups m) c.group_lines.ensures.groups_are)
+    (subst (λ (gs : List Group). GroupTable f.result.basis.count (blocks gs) c.group_lines.new.groups) (same_groups m) c.group_lines.ensures.groups_are)

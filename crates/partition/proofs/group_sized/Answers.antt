@@ -30,19 +30,19 @@ pub gather-requires-clause-within : goal.gather-requires-clause-within
 gather-requires-clause-within g c =
     let d = (goal.at.gather-requires-clause-within g c).After-group_points-made in
     let m = c.group_points-made in
-    gather-within (basis_frame c.args.f c.args.r) c.args.f.count c.points_into.new.points (ps g d) c.args.groups.now m.new.groups m.ensures.grouped c.points_into.ensures.0 (room g d) (blank g d) m.new.blocks m.ensures.blocks_after (found g d)
+    gather-within (basis_frame c.args.f) c.args.f.basis.count c.points_into.new.points (ps g d) c.args.groups.now m.new.groups m.ensures.grouped c.points_into.ensures.0 (room g d) (blank g d) m.new.blocks m.ensures.blocks_after (found g d)
 
 pub gather-requires-clause-by_index : goal.gather-requires-clause-by_index
 gather-requires-clause-by_index g c =
     let d = (goal.at.gather-requires-clause-by_index g c).After-group_points-made in
     let m = c.group_points-made in
-    gather-numbers (basis_frame c.args.f c.args.r) c.args.f.count c.points_into.new.points (ps g d) c.args.groups.now m.new.groups m.ensures.grouped c.points_into.ensures.0 (room g d) (blank g d) m.new.blocks m.ensures.blocks_after (found g d)
+    gather-numbers (basis_frame c.args.f) c.args.f.basis.count c.points_into.new.points (ps g d) c.args.groups.now m.new.groups m.ensures.grouped c.points_into.ensures.0 (room g d) (blank g d) m.new.blocks m.ensures.blocks_after (found g d)
 
 -- how many numbers there are
 many : (g : Over) (c : After-group_points-made g) → length c.group_points-made.new.blocks ≡ length c.args.lines.now.heads.now
 many g c =
     let m = c.group_points-made in
-    numbers-long (basis_frame c.args.f c.args.r) c.args.f.count c.points_into.new.points (ps g c) c.args.groups.now m.new.groups m.ensures.grouped c.points_into.ensures.0 (room g c) (blank g c) m.new.blocks m.ensures.blocks_after (found g c)
+    numbers-long (basis_frame c.args.f) c.args.f.basis.count c.points_into.new.points (ps g c) c.args.groups.now m.new.groups m.ensures.grouped c.points_into.ensures.0 (room g c) (blank g c) m.new.blocks m.ensures.blocks_after (found g c)
     ∙ long g c
 
 pub spread-requires : goal.spread-requires
@@ -58,5 +58,5 @@ returns g c =
     let d = (goal.at.returns g c).After-group_points-made in
     let m = c.group_points-made in
     let L = c.requires.lines_given in
-    lines-grouped (basis_frame c.args.f c.args.r) c.args.f.count c.points_into.new.points (ps g d) c.args.groups.now m.new.groups m.ensures.grouped c.points_into.ensures.0 (room g d) (blank g d) m.new.blocks m.ensures.blocks_after (found g d)
+    lines-grouped (basis_frame c.args.f) c.args.f.basis.count c.points_into.new.points (ps g d) c.args.groups.now m.new.groups m.ensures.grouped c.points_into.ensures.0 (room g d) (blank g d) m.new.blocks m.ensures.blocks_after (found g d)
     m.result m.ensures.value c.gather.new.table c.gather.ensures.xs_after c.args.numbers.now (length c.args.lines.now.keys.now) L.numbers_long (λ k l. omega (arith, long g d, L.line_low k l)) c.spread.new.table c.spread.ensures

@@ -20,7 +20,7 @@ group_rows-requires-clause-by_index c =
     let x = c.number_table in
     let n = length c.args.points.now in
     let room : n ≤ length C.new.table = omega (arith, C.ensures.size, c.requires.few.1) in
-    class-numbers c.args.f.framed c.args.points.now c.args.groups.now C.new.table c.args.blocks.now x.new.out n (omega arith) room c.told-points C.ensures
+    class-numbers c.args.f.basis.framed c.args.points.now c.args.groups.now C.new.table c.args.blocks.now x.new.out n (omega arith) room c.told-points C.ensures
     (x.ensures.out_after ∙ ap (λ (k : ℕ). map (λ v. place (eq_v v) (firsts eq_v (rows C.new.table n))) (rows C.new.table n) ++ drop k c.args.blocks.now) (length-rows C.new.table n room))
 
 pub number_table-requires-2-clause-within : goal.number_table-requires-2-clause-within

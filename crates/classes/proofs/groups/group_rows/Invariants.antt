@@ -9,5 +9,5 @@ abbrev pub invariant-loop-i : goal.invariant-loop-i
 invariant-loop-i l =
     record {
       wide : length l.heads ≡ 4096;
-      groups : GroupsTo (in_one_class_by l.f.p l.f.count (vector_of l.f 0) (vector_of l.f 1) (vector_of l.f 2)) (basis_frame_by l.f.p l.f.count (vector_of l.f 0) (vector_of l.f 1) (vector_of l.f 2) l.r) l.f.count l.points l.initial.groups l.groups l.heads l.count l.i;
+      groups : GroupsTo (in_one_class_by l.f.basis.p l.f.basis.count (vector_of l.f.basis 0) (vector_of l.f.basis 1) (vector_of l.f.basis 2)) (basis_frame_by l.f.basis.p l.f.basis.count (vector_of l.f.basis 0) (vector_of l.f.basis 1) (vector_of l.f.basis 2) l.f.r) l.f.basis.count l.points l.initial.groups l.groups l.heads l.count l.i;
     }
