@@ -13,7 +13,7 @@ use Rattle.integers.proofs.Machine.{reads}
 use Rattle.integers.proofs.Vector.{get_or-within}
 use Rattle.grouping.specs.Periods.{Serves}
 use Rattle.partition.proofs.LineLaws.{divided-times, divided-within}
-use Rattle.partition.proofs.Passed.{next_old, passed-length}
+use Rattle.numbering.proofs.Filled.{next_old, passed-length}
 use Rattle.partition.proofs.inputs.divided.Goals as goal
 use Rattle.partition.proofs.inputs.divided.Goals.{In-loop-part, Start}
 

@@ -2,7 +2,7 @@
 use Rattle.std.proofs.Common.{◌≡◌, ◌∙◌, ◌-◌, ap, get_or, sym, refl, arith}
 use Rattle.std.proofs.lemmas.List.Edits.{map_over_more}
 use Rattle.integers.proofs.ListFacts.{get_d_default, greatest-none}
-use Rattle.partition.proofs.Passed.{next_old}
+use Rattle.numbering.proofs.Filled.{next_old}
 use Rattle.partition.proofs.StepLaws.{greatest-more}
 use Rattle.partition.proofs.schedule.elapsed_from.Goals as goal
 use Rattle.partition.proofs.schedule.elapsed_from.Goals.{In-loop-step}
