@@ -57,7 +57,7 @@ FramedIn P count vs fs d =
 
 -- ---- each of these facts has one proof at most, so the code's struct can keep it
 
-AllWithin-prop : (A : ℕ) (v : Vector) → IsProp (AllWithin A v)
+pub AllWithin-prop : (A : ℕ) (v : Vector) → IsProp (AllWithin A v)
 AllWithin-prop A [] = Unit-prop
 AllWithin-prop A (z ∷ v) = ×_prop le_prop (AllWithin-prop A v)
 

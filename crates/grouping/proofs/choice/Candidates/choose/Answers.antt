@@ -8,7 +8,7 @@ use Rattle.std.proofs.lemmas.List.{take_more, take_all}
 use Rattle.grouping.specs.Basis.{chosen_in}
 use Rattle.grouping.specs.Grouping.{extend, grouping_vector}
 use Rattle.grouping.proofs.Listed.{chosen_is, extend-append, extend-none}
-use Rattle.grouping.proofs.choice.choose.Goals as goal
+use Rattle.grouping.proofs.choice.Candidates.choose.Goals as goal
 
 pub loop-d-init : goal.loop-d-init
 loop-d-init c = record { time = refl; chosen = extend-none c.begin-f.result.p (chosen_in c.begin-f.result) }
@@ -18,7 +18,7 @@ loop-d-preserved c =
     let f₀ = c.begin-f.result in
     let x = c.extended-f.ensures in
     let i = c.loop-d.d-index in
-    let ds = c.args.ds.now in record {
+    let ds = c.args.self.now.ds.now in record {
       time = x.p_value.0 ∙ c.loop-d.invariant.time;
       chosen = x.p_value.1 ∙ ap₂ (λ (u : List ℤ) (w : List (List ℤ)). extend u w (get_or ds i [] ∷ [])) c.loop-d.invariant.time c.loop-d.invariant.chosen
           ∙ sym (extend-append f₀.p (chosen_in f₀) (take i ds) (get_or ds i []))
@@ -30,8 +30,8 @@ returns c =
     let b = c.begin-f.ensures.p_value in record {
       p_value = (
         c.loop-d.invariant.time ∙ b.0,
-        c.loop-d.invariant.chosen ∙ ap₂ (λ (u : List ℤ) (w : List (List ℤ)). extend u w (take c.loop-d.d-index c.args.ds.now)) b.0 b.1
-            ∙ ap (extend c.args.p (grouping_vector c.args.p c.args.ds.now)) (take_all c.loop-d.d-index c.args.ds.now (omega arith))
-            ∙ chosen_is c.args.p c.args.ds.now,
+        c.loop-d.invariant.chosen ∙ ap₂ (λ (u : List ℤ) (w : List (List ℤ)). extend u w (take c.loop-d.d-index c.args.self.now.ds.now)) b.0 b.1
+            ∙ ap (extend c.args.self.now.time.p (grouping_vector c.args.self.now.time.p c.args.self.now.ds.now)) (take_all c.loop-d.d-index c.args.self.now.ds.now (omega arith))
+            ∙ chosen_is c.args.self.now.time.p c.args.self.now.ds.now,
       );
     }

@@ -3,7 +3,7 @@ use mathlib.Core.Path.{◌≡◌}
 use lib.IntN.{pos}
 use lib.ListN.{take}
 use Rattle.grouping.specs.Projection.{group_size}
-use Rattle.grouping.proofs.choice.group_size.Given as goal
+use Rattle.grouping.proofs.choice.Candidates.group_size.Given as goal
 
 abbrev pub invariant-loop-d : goal.invariant-loop-d
-invariant-loop-d l = l.r ≡ pos (group_size l.p (take l.d-index l.ds))
+invariant-loop-d l = l.r ≡ pos (group_size l.self.time.p (take l.d-index l.self.ds.now))

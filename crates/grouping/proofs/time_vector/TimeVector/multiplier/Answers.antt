@@ -8,24 +8,24 @@ use Rattle.integers.proofs.Vector.{all_wider}
 use Rattle.grouping.specs.Projection.{projection}
 use Rattle.grouping.proofs.Four.{dot_within, projection-within}
 use Rattle.grouping.proofs.Smallest.{period_multiplier}
-use Rattle.grouping.proofs.arithmetic.multiplier.Goals as goal
+use Rattle.grouping.proofs.time_vector.TimeVector.multiplier.Goals as goal
 
 pub inner-requires : goal.inner-requires
-inner-requires c = let a = all_wider 16 30000 c.args.p (lit≤ tt) c.requires.all_within.0 in (a, a)
+inner-requires c = let a = all_wider 16 30000 c.args.self.now.p (lit≤ tt) c.args.self.now.within in (a, a)
 
 pub smallest_multiple-requires : goal.smallest_multiple-requires
 smallest_multiple-requires c =
     rw (told c.inner.result c.inner.type_inv) (rw c.inner.ensures (record {
-      pos_bound = c.requires.pos_bound;
+      pos_bound = c.args.self.now.positive;
       s_bound = (
-        omega (arith, dot_within 16 16 c.args.p c.args.p (omega arith) (omega arith) c.requires.all_within.0 c.requires.all_within.0),
+        omega (arith, dot_within 16 16 c.args.self.now.p c.args.self.now.p (omega arith) (omega arith) c.args.self.now.within c.args.self.now.within),
         subst (AllWithin 100000) (sym c.project.ensures)
-            (all_wider _ 100000 (projection c.args.p c.args.d) (lit≤ tt) (projection-within 16 16 c.args.p c.args.d (omega arith) (omega arith) c.requires.all_within.0 c.requires.all_within.1)),
+            (all_wider _ 100000 (projection c.args.self.now.p c.args.d) (lit≤ tt) (projection-within 16 16 c.args.self.now.p c.args.d (omega arith) (omega arith) c.args.self.now.within c.requires)),
       );
     }))
 
 pub returns : goal.returns
 returns c =
     told c.smallest_multiple.result c.smallest_multiple.type_inv
-    ∙ period_multiplier c.args.p c.args.d _ c.smallest_multiple.result c.requires.pos_bound refl
+    ∙ period_multiplier c.args.self.now.p c.args.d _ c.smallest_multiple.result c.args.self.now.positive refl
     (rw (told c.inner.result c.inner.type_inv, c.inner.ensures, c.project.ensures) at c.smallest_multiple.ensures)
