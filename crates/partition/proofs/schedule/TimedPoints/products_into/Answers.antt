@@ -1,6 +1,7 @@
 -- `products_into` meets its contract. Assumes nothing.
 use Rattle.std.proofs.Common.{◌≡◌, ◌∙◌, ◌≤◌, ℕ, ℤ, nat_abs, sym, subst, arith, to_z, w64}
 use Rattle.integers.proofs.Bounds.{told}
+use Rattle.integers.proofs.Extremes.{min_is}
 use Rattle.integers.proofs.Machine.{reads}
 use Rattle.partition.specs.KeySteps.{product_at, max_product}
 use Rattle.partition.proofs.Products.{product_small}
@@ -27,8 +28,8 @@ raised-requires c =
 pub loop-k-preserved : goal.loop-k-preserved
 loop-k-preserved c =
     let l = c.loop-k in
-    measured_more (f (goal.at.loop-k-preserved c).Start) c.args.steps.now l.steps (to_z w64 l.product-bits) (to_z w64 l.least-bits) (reads c.next_product-product.result) (reads c.lesser-least.result) c.raised.result l.k l.invariant
-    (omega arith) (next_is (goal.at.loop-k-preserved c).After-next_product-product) c.raised.ensures (told c.lesser-least.result c.lesser-least.type_inv ∙ c.lesser-least.ensures)
+    measured_more (f (goal.at.loop-k-preserved c).Start) c.args.steps.now l.steps (to_z w64 l.product-bits) (to_z w64 l.least-bits) (reads c.next_product-product.result) (reads c.min-least.result) c.raised.result l.k l.invariant
+    (omega arith) (next_is (goal.at.loop-k-preserved c).After-next_product-product) c.raised.ensures (told c.min-least.result c.min-least.type_inv ∙ c.min-least.ensures.value ∙ min_is (to_z w64 l.least-bits) (reads c.next_product-product.result))
 
 pub returns-clause-steps_after : goal.returns-clause-steps_after
 returns-clause-steps_after c =
