@@ -3,10 +3,6 @@
 use Rattle.std.specs.Prelude.{ℕ, ◌*◌}
 use Rattle.numbering.specs.Limits.{components, max_coordinate}
 
--- how many vectors there may be to choose from
-abbrev pub max_vectors : ℕ
-max_vectors = 8
-
 -- how many of them may be chosen
 abbrev pub max_chosen : ℕ
 max_chosen = 3

@@ -5,8 +5,8 @@
 use Rattle.std.specs.Prelude.{true, false, List, [], ◌∷◌, ◌++◌, map, ℕ, zero, suc, ◌<◌, ◌≤◌, ltb, ℤ, pos, nat_abs}
 use Rattle.std.specs.Prelude.{length, get_or}
 use denote.Struct.Props as known
-use mathlib.Core.HLevel.{×_prop, Unit-prop}
 use Rattle.integers.specs.Vector.{Vector, AllWithin}
+use Rattle.grouping.specs.Framed.{AllWithin-prop}
 use Rattle.nest.specs.Nest.{padded, max_limit}
 use Rattle.numbering.specs.Limits.{components}
 use Rattle.sources.specs.Keys.{digits, max_key}
@@ -32,8 +32,4 @@ pub record PointAt (keys : List ℤ) (n k : ℕ) : Type 0 where
   pub within : AllWithin max_limit (digits n (get_or keys k (pos 0)))
 
 -- of these facts there is one proof at most, as a ghost field asks
-pub within-prop : (A : ℕ) (v : Vector) → IsProp (AllWithin A v)
-within-prop A [] = Unit-prop
-within-prop A (x ∷ v) = ×_prop (hlevel known.props) (within-prop A v)
-
-pub ruleset props = (within-prop, known.props)
+pub ruleset props = (AllWithin-prop, known.props)
