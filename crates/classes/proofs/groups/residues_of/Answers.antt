@@ -1,5 +1,5 @@
 -- `residues_of` answers the residues of a point.
-use mathlib.Core.Path.{◌≡◌, refl, sym, ◌∙◌, ap, ap₂, subst}
+use mathlib.Core.Path.{◌≡◌, sym, ◌∙◌, ap, ap₂, subst}
 use mathlib.Core.Bool.{true}
 use mathlib.Core.List.{[], ◌∷◌, ◌++◌, map, append-nil}
 use Prim.Native.Nat.{◌≤◌}
@@ -54,9 +54,6 @@ next-small d =
 
 next-read : (d : In-loop-t) → reads (next d) ≡ next d
 next-read d = back (next d) (next-small d) (lit≤ tt)
-
-pub loop-t-init : goal.loop-t-init
-loop-t-init c = refl
 
 pub rem_euclid-requires-clause-no_overflow : goal.rem_euclid-requires-clause-no_overflow
 rem_euclid-requires-clause-no_overflow c _ e =
