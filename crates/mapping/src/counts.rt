@@ -41,6 +41,7 @@ fn next_messages(sources: &mut Sources, processors: &[u8]) -> usize
 {
     let here = processors[sources.iteration];
     let mut number = 0;
+    // Kept: a turn moves a cursor of the search, so the loop cannot go over what the search holds.
     for i in 0..sources.distances.len() {
         if let Some(j) = sources.source(i) {
             if processors[j] != here {

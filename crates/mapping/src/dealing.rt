@@ -21,6 +21,7 @@ impl Dealing {
         ensures { deal_of self.new.directions self.new.turn
             ≡ deal_bit max_depth (deal_of self.old.directions self.old.turn) }
     {
+        // Kept: it counts how many are asked; which one is asked goes round, from `turn`.
         for _ in 0..LoopNest::MAX_DEPTH {
             let k = self.turn;
             self.turn = next_turn(k);
@@ -44,6 +45,7 @@ pub fn deal(
         directions,
         turn: 0,
     };
+    // Kept: it counts the bits; there is nothing to go over.
     for _ in 0..c {
         dealing.deal_bit();
     }

@@ -1,5 +1,4 @@
-// The directions of a table of groups, their parts and Gray codes (000, algorithm 2; document 01:
-// cards).
+// Directions, their parts and Gray codes (000, algorithm 2; document 01: cards).
 ghost use Rattle.std.specs.Prelude.{◌≡◌, ◌+◌, ◌^◌, ◌<◌, ◌≤◌, nat_abs, ◌-ℤ◌, ◌≤ℤ◌, length};
 ghost use Rattle.nest.specs.Nest.{to_ℕ, max_depth, max_cube, max_iterations};
 ghost use Rattle.mapping.specs.Mapping.{next_turn, takes_bit, part_of, gray};
@@ -9,22 +8,6 @@ ghost use Rattle.mapping.specs.Held.{direction_of, held, HoldsValue};
 use crate::gray::gray_of;
 use nest::LoopNest;
 use numbering::Row;
-
-// 2^e.
-pub fn power(e: u64) -> u64
-    requires { e < 64 }
-    ensures { result ≡ 2 ^ e }
-{
-    1u64 << e
-}
-
-// How far a value is above the least.
-fn height(least: i64, value: i64) -> u64
-    requires { (nat_abs least ≤ max_number) × (nat_abs value ≤ max_number) × (least ≤ℤ value) }
-    ensures { result ≡ to_ℕ (value -ℤ least) }
-{
-    (value - least) as u64
-}
 
 // A direction: the least value and the width over all groups, and the bits that it was dealt.
 #[derive(Clone, Copy)]
@@ -36,11 +19,12 @@ pub struct Direction {
 
 impl Direction {
     // Whether it takes another bit.
+    #[tactic(auto, using(crate::proofs::Small::shifted), unfolding(crate::specs::Mapping::takes_bit))]
     pub fn takes_bit(self) -> bool
         requires { self.bits ≤ max_cube }
         ensures { result ≡ takes_bit (direction_of self) }
     {
-        power(self.bits + 1) <= self.width
+        1 << (self.bits + 1) <= self.width
     }
 
     // The part of a value. A direction without a bit has one part, part 0.
@@ -51,7 +35,7 @@ impl Direction {
         if self.bits == 0 {
             return 0;
         }
-        height(self.least, value) * power(self.bits) / self.width
+        (value.abs_diff(self.least) << self.bits) / self.width
     }
 
     // The Gray code of a value's part.
@@ -64,6 +48,7 @@ impl Direction {
 }
 
 // The direction behind k, going round.
+#[tactic(auto, unfolding(crate::specs::Mapping::next_turn))]
 pub fn next_turn(k: usize) -> usize
     requires { k < max_depth }
     ensures { result ≡ next_turn max_depth k }
@@ -72,45 +57,10 @@ pub fn next_turn(k: usize) -> usize
 }
 
 // The column of direction j: a row begins with the class, which is the last direction.
+#[tactic(auto, unfolding(crate::specs::GroupNumbers::column_of))]
 pub fn column_of(j: usize) -> usize
     requires { j < max_depth }
     ensures { result ≡ column_of j }
 {
     next_turn(j)
-}
-
-// The direction whose values stand in column j, with no bits.
-fn direction_in(rows: &[Row], j: usize) -> Direction
-    requires { (1 ≤ length rows.now) × (j < max_depth) × RowsInSpan rows.now (length rows.now) }
-    ensures { direction_of result ≡ span_of (column rows.now j (length rows.now)) }
-{
-    let mut least = rows[0][j];
-    let mut greatest = least;
-    for row in &rows[1..] {
-        least = integers::lesser(least, row[j]);
-        greatest = integers::larger(greatest, row[j]);
-    }
-    Direction {
-        least,
-        width: height(least, greatest) + 1,
-        bits: 0,
-    }
-}
-
-// The directions, the class last, with no bits.
-pub fn directions_in(rows: &[Row]) -> [Direction; LoopNest::MAX_DEPTH]
-    requires { (1 ≤ length rows.now) × RowsInSpan rows.now (length rows.now) }
-    ensures { held result ≡ directions_in rows.now (length rows.now) }
-{
-    let none = Direction {
-        least: 0,
-        width: 0,
-        bits: 0,
-    };
-    let mut directions = [none; LoopNest::MAX_DEPTH];
-    for (j, direction) in directions.iter_mut().enumerate() {
-        let column = column_of(j);
-        *direction = direction_in(rows, column);
-    }
-    directions
 }

@@ -7,6 +7,7 @@ ghost use Rattle.mapping.specs.GrayCodes.{gray_codes, code_for};
 
 // The Gray code of a part. A direction has at most 64 parts, so the last case is part 63 and no
 // other.
+#[tactic(auto, unfolding(crate::specs::GrayCodes::gray_codes, crate::specs::Mapping::gray))]
 pub fn gray_of(p: u64) -> u64
     requires { p < 2 ^ max_cube }
     ensures { (result ≡ code_for gray_codes p) × (result ≡ gray p) }

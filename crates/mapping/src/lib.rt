@@ -2,11 +2,13 @@
 // of processors and of messages.
 #![tactic(auto)]
 
+mod block_groups;
 mod counts;
 mod dealing;
 mod directions;
 mod gray;
 mod processors;
 
+pub use crate::block_groups::BlockGroups;
 pub use crate::counts::{message_count, processor_count};
 pub use crate::processors::processors_into;

@@ -16,6 +16,7 @@ ghost use Rattle.nest_text.specs.Answered.{writing_of};
 ghost use Rattle.planner.specs.Plan.{plan_answer, tables_in, Plans};
 ghost use Rattle.planner.specs.Answered.{made_of, planning_of};
 
+use mapping::BlockGroups;
 use nest::{AcceptedNest, LoopNest, Refusal};
 use sources::KeyedNest;
 
@@ -42,8 +43,11 @@ fn place_blocks(s: &KeyedNest, blocks: &mut [u16], processors: &mut [u8]) -> usi
 {
     let mut groups = [[0; numbering::COMPONENTS]; LoopNest::MAX_ITERATIONS];
     let count = partition::blocks_into(s, &mut groups, blocks);
+    let groups = BlockGroups {
+        rows: &groups[..count],
+    };
     let blocks = &blocks[..s.nest.iterations];
-    mapping::processors_into(&groups[..count], s.nest.cube(), blocks, processors);
+    mapping::processors_into(&groups, s.nest.cube(), blocks, processors);
     count
 }
 

@@ -74,9 +74,10 @@ pub fn put_rows(
         (flat_map line (tab (row_of steps.now blocks.now processors.now
         values.now) (length steps.now))) out.new result }
 {
+    let rows = steps.iter().zip(blocks).zip(processors).zip(values);
     let mut end = at;
-    for (k, step) in steps.iter().enumerate() {
-        end = put_row(out, end, k, *step, blocks[k], processors[k], values[k]);
+    for (rank, (((step, block), processor), value)) in rows.enumerate() {
+        end = put_row(out, end, rank, *step, *block, *processor, *value);
     }
     end
 }

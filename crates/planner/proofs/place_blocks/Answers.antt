@@ -62,20 +62,26 @@ blocks_into-count-requires c =
 pub slice_bounds-groups-end : goal.slice_bounds-groups-end
 slice_bounds-groups-end c = few (goal.at.slice_bounds-groups-end c).After-blocks_into-count
 
-pub slice_bounds-processors_into-end : goal.slice_bounds-processors_into-end
-slice_bounds-processors_into-end c = sym (rows_long (goal.at.slice_bounds-processors_into-end c).After-blocks_into-count)
+pub slice_bounds-groups-end-2 : goal.slice_bounds-groups-end-2
+slice_bounds-groups-end-2 c = sym (rows_long (goal.at.slice_bounds-groups-end-2 c).After-blocks_into-count)
 
-pub processors_into-requires-clause-rows : goal.processors_into-requires-clause-rows
-processors_into-requires-clause-rows c =
-    let b = (goal.at.processors_into-requires-clause-rows c).After-blocks_into-count in
+-- there are as many as blocks, and so one
+pub invariant_of-groups-clause-some : goal.invariant_of-groups-clause-some
+invariant_of-groups-clause-some c =
     let t = c.args.s.now.nest.now in
-    let e = c.blocks_into-count.ensures.value in
-    let l = rows_long b in
-    let few = blocks-few t.nest t.accepted in (
-      omega (arith, l, e, block_below t.nest t.accepted 0 (some-points t.nest t.accepted)),
-      omega (arith, l, e, few, few-points t.nest t.accepted),
+    omega (arith, rows_long (goal.at.invariant_of-groups-clause-some c).After-blocks_into-count, c.blocks_into-count.ensures.value, block_below t.nest t.accepted 0 (some-points t.nest t.accepted))
+
+pub invariant_of-groups-clause-span : goal.invariant_of-groups-clause-span
+invariant_of-groups-clause-span c =
+    let b = (goal.at.invariant_of-groups-clause-span c).After-blocks_into-count in
+    let t = c.args.s.now.nest.now in
+    has_rows t.nest t.accepted (rows b) (groups_laid b) (length (rows b)) (rows_long b ∙ c.blocks_into-count.ensures.value) (omega arith)
+
+pub processors_into-requires-clause-limits : goal.processors_into-requires-clause-limits
+processors_into-requires-clause-limits c =
+    let t = c.args.s.now.nest.now in (
+      omega (arith, rows_long (goal.at.processors_into-requires-clause-limits c).After-blocks_into-count, c.blocks_into-count.ensures.value, blocks-few t.nest t.accepted, few-points t.nest t.accepted),
       omega (arith, c.cube.ensures, (cube_is t.nest t.accepted).1),
-      has_rows t.nest t.accepted (rows b) (groups_laid b) (length (rows b)) (l ∙ e) (omega arith),
     )
 
 pub processors_into-requires-clause-blocks : goal.processors_into-requires-clause-blocks

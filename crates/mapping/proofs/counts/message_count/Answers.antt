@@ -49,9 +49,6 @@ slice_bounds-distances-end c = omega (arith, few (goal.at.slice_bounds-distances
 pub slice_bounds-new-end : goal.slice_bounds-new-end
 slice_bounds-new-end c = sym (distances-length (goal.at.slice_bounds-new-end c).After-count-m)
 
-pub new-sources-requires-clause-few : goal.new-sources-requires-clause-few
-new-sources-requires-clause-few c = let t = (goal.at.new-sources-requires-clause-few c).After-count-m in omega (arith, few t, distances-length t)
-
 pub new-sources-requires-clause-searchable : goal.new-sources-requires-clause-searchable
 new-sources-requires-clause-searchable c =
     let t = (goal.at.new-sources-requires-clause-searchable c).After-count-m in
@@ -59,9 +56,6 @@ new-sources-requires-clause-searchable c =
 
 pub loop-init : goal.loop-init
 loop-init c = record { counted = sym (total-none (row c.args.s.now.nest.now.nest c.args.processors.now)); same_keys = refl; same_distances = refl; at_index = c.new-sources.ensures.iteration }
-
-pub next_messages-number-requires-clause-iteration : goal.next_messages-number-requires-clause-iteration
-next_messages-number-requires-clause-iteration c = omega (arith, c.loop.invariant.at_index, ap (λ (ks : List ℤ). length ks) (c.loop.invariant.same_keys ∙ c.new-sources.ensures.keys), c.loop-test.true)
 
 pub next_messages-number-requires-clause-room : goal.next_messages-number-requires-clause-room
 next_messages-number-requires-clause-room c = omega (arith, ap (λ (ks : List ℤ). length ks) (c.loop.invariant.same_keys ∙ c.new-sources.ensures.keys), keys-count (goal.at.next_messages-number-requires-clause-room c).After-count-m, c.requires)
@@ -82,11 +76,6 @@ overflow_add-number c =
     let m = total-most r max_dependences c.loop.index (row-most c.args.s.now.nest.now.nest c.args.processors.now c.args.s.now.nest.now.accepted) in
     let o = row-most c.args.s.now.nest.now.nest c.args.processors.now c.args.s.now.nest.now.accepted c.loop.index in
     omega (arith, m, o, c.loop.invariant.counted, added (goal.at.overflow_add-number c).After-next_messages-number, c.loop-test.true, keys-count t, few-points c.args.s.now.nest.now.nest c.args.s.now.nest.now.accepted)
-
-pub advance-requires : goal.advance-requires
-advance-requires c =
-    let n = c.next_messages-number.ensures in
-    omega (arith, n.iteration ∙ c.loop.invariant.at_index, ap (λ (ks : List ℤ). length ks) (n.keys ∙ c.loop.invariant.same_keys ∙ c.new-sources.ensures.keys), c.loop-test.true)
 
 pub loop-preserved : goal.loop-preserved
 loop-preserved c =

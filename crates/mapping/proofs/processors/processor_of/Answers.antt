@@ -1,5 +1,5 @@
 -- `processor_of` meets its contract. Assumes nothing.
-use Rattle.std.proofs.Common.{◌≡◌, sym, ap, ap₂, subst, subst₂, ◌∙◌, ℤ, arith, ℕ, ◌+◌, ◌*◌, ◌^◌, ◌<◌, length, get_or, pos}
+use Rattle.std.proofs.Common.{◌≡◌, sym, ap, ap₂, subst, subst₂, ◌∙◌, ℤ, arith, ℕ, ◌+◌, ◌*◌, ◌%◌, ◌^◌, ◌<◌, length, get_or, pos}
 use Rattle.std.proofs.lemmas.List.{length-map}
 use Rattle.nest.specs.Nest.{max_depth, max_cube}
 use Rattle.mapping.specs.Mapping.{Direction, direction_at, gray, part_of}
@@ -8,7 +8,7 @@ use Rattle.mapping.specs.Held.{direction_of, held, HoldsValue}
 use Rattle.integers.proofs.Machine.{reads}
 use Rattle.mapping.proofs.Arrays.{none, held-at}
 use Rattle.mapping.proofs.Deals.{turn_below}
-use Rattle.mapping.proofs.Small.{small}
+use Rattle.mapping.proofs.Small.{small, shifted}
 use Rattle.mapping.proofs.Widths.{holds_at, code_at, Joining, joining_more, joining_small, joining_end}
 use Rattle.mapping.proofs.processors.processor_of.Goals as goal
 use Rattle.mapping.proofs.processors.processor_of.Goals.{Start, After-column_of, After-code_of, In-loop-j}
@@ -38,21 +38,22 @@ bits c = ap (λ (d : Direction). d.bits) (here c)
 value : (c : After-column_of) → get_or c.args.row.now c.column_of.result (pos 0) ≡ get_or c.args.row.now (column_of c.loop-j.j) (pos 0)
 value c = ap (λ i. get_or c.args.row.now i (pos 0)) c.column_of.ensures
 
-made : (c : After-code_of) → c.loop-j.p * c.power.result + c.code_of.result ≡ c.loop-j.p * 2 ^ (direction_at (held c.args.directions.now) c.loop-j.j).bits + code_at (held c.args.directions.now) c.args.row.now (long (goal.at.After-code_of c).Start) c.requires c.loop-j.j
+-- the shift loses nothing
+joined_bits : (c : In-loop-j) → c.loop-j.p * 2 ^ (get_or c.args.directions.now c.loop-j.j none).bits % 2 ^ 64 ≡ c.loop-j.p * 2 ^ (direction_at (held c.args.directions.now) c.loop-j.j).bits
+joined_bits c =
+    let b = bits c in
+    let p = joining_small (held c.args.directions.now) c.args.row.now (long (goal.at.In-loop-j c).Start) c.requires c.loop-j.p c.loop-j.j c.loop-j.invariant in
+    shifted c.loop-j.p (get_or c.args.directions.now c.loop-j.j none).bits (omega (arith, p)) (omega (arith, b, (holds c).few_bits)) ∙ ap (λ e. c.loop-j.p * 2 ^ e) (sym b)
+
+made : (c : After-code_of) → c.loop-j.p * 2 ^ (get_or c.args.directions.now c.loop-j.j none).bits % 2 ^ 64 + c.code_of.result ≡ c.loop-j.p * 2 ^ (direction_at (held c.args.directions.now) c.loop-j.j).bits + code_at (held c.args.directions.now) c.args.row.now (long (goal.at.After-code_of c).Start) c.requires c.loop-j.j
 made c =
     let d = (goal.at.After-code_of c).In-loop-j in
     let v = value (goal.at.After-code_of c).After-column_of in
-    ap₂ (λ x y. c.loop-j.p * x + y) (c.power.ensures ∙ ap (λ e. 2 ^ e) (sym (bits d)))
+    ap₂ (λ x y. x + y) (joined_bits d)
     (c.code_of.ensures ∙ ap₂ (λ (e : Direction) (x : ℤ). gray (part_of e x)) (sym (here d)) (ap reads v ∙ small (get_or c.args.row.now (column_of c.loop-j.j) (pos 0)) (holds d).value_small))
 
-pub power-requires : goal.power-requires
-power-requires c = let d = (goal.at.power-requires c).In-loop-j in omega (arith, bits d, (holds d).few_bits)
-
-pub overflow_mul-p : goal.overflow_mul-p
-overflow_mul-p c =
-    let d = (goal.at.overflow_mul-p c).In-loop-j in
-    let e = ap (λ x. c.loop-j.p * x) (c.power.ensures ∙ ap (λ e. 2 ^ e) (sym (bits d))) in
-    omega (arith, e, next_small d)
+pub overflow_shl-p : goal.overflow_shl-p
+overflow_shl-p c = let d = (goal.at.overflow_shl-p c).In-loop-j in omega (arith, bits d, (holds d).few_bits)
 
 pub offset_bounds-row-column_of : goal.offset_bounds-row-column_of
 offset_bounds-row-column_of c = unfold column_of in omega (arith, turn_below max_depth c.loop-j.j c.loop-j-test.true, c.column_of.ensures)

@@ -15,8 +15,8 @@ processors-long rows n c = length-tab (λ k. joined 0 (dealt c (directions_in ro
 pub returns : goal.returns
 returns c =
     let a = c.args in
-    let ps = processors_in a.rows.now (length a.rows.now) a.c in
+    let ps = processors_in a.groups.now.rows.now (length a.groups.now.rows.now) a.c in
     c.place_iterations.ensures
     ∙ ap (λ (l : List ℕ). l ++ drop (length a.blocks.now) a.processors.now)
     (tab-same (λ k. get_or c.block_processors.new.processors (get_or a.blocks.now k 0) 0) (λ k. get_or ps (get_or a.blocks.now k 0) 0) (length a.blocks.now)
-    (λ k l. ap (λ (o : List ℕ). get_or o (get_or a.blocks.now k 0) 0) c.block_processors.ensures ∙ get_or-before 0 ps _ (get_or a.blocks.now k 0) (omega (arith, c.requires.blocks.1 k l, processors-long a.rows.now (length a.rows.now) a.c))))
+    (λ k l. ap (λ (o : List ℕ). get_or o (get_or a.blocks.now k 0) 0) c.block_processors.ensures ∙ get_or-before 0 ps _ (get_or a.blocks.now k 0) (omega (arith, c.requires.blocks.1 k l, processors-long a.groups.now.rows.now (length a.groups.now.rows.now) a.c))))

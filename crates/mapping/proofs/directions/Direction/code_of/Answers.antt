@@ -10,9 +10,6 @@ use Rattle.mapping.proofs.Small.{small}
 use Rattle.mapping.proofs.directions.Direction.code_of.Goals as goal
 use Rattle.mapping.proofs.directions.Direction.code_of.Goals.{After-part_of}
 
-pub part_of-requires : goal.part_of-requires
-part_of-requires c = rw (small c.args.value c.requires.value_small) c.requires
-
 -- what `part_of` answers is the value's part
 part-is : (c : After-part_of) → c.part_of.result ≡ part_of (direction_of c.args.self) c.args.value
 part-is c = rw (small c.args.value c.requires.value_small) at c.part_of.ensures
@@ -21,6 +18,3 @@ part-is c = rw (small c.args.value c.requires.value_small) at c.part_of.ensures
 pub gray_of-requires : goal.gray_of-requires
 gray_of-requires c =
     rw (part-is (goal.at.gray_of-requires c).After-part_of) (lt_of_lt_of_le (part-below (direction_of c.args.self) c.args.value c.requires.in_width.1) (pow_mono {i = c.args.self.bits} {j = max_cube} c.requires.few_bits))
-
-pub returns : goal.returns
-returns c = c.gray_of.ensures.1 ∙ ap gray (part-is (goal.at.returns c).After-part_of)
