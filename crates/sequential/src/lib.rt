@@ -54,39 +54,45 @@ fn edge_at(s: &AcceptedNest, i: usize) -> Edge
     }
 }
 
-// The weight of dependence i times the value that is read along it at an index point, where the
-// iterations have these values: the source's, or the boundary value of dependence i where the
-// source is no iteration.
-fn weighted_source(
-    s: &AcceptedNest,
-    values: &[u16],
-    point: [i64; LoopNest::MAX_DEPTH],
-    i: usize,
-) -> usize
-    requires { (is_point (points_of s.now.nest) (part point 0 (depth_of s.now.nest)) ≡ true)
-        × (i < count_of s.now.nest) × (s.now.iterations ≤ length values.now) }
-    ensures value { result ≡ to_ℕ (get_or s.now.nest.weights i (pos 0)) * get_or (take s.now.iterations values.now)
-        (rank (points_of s.now.nest) (source (part point 0 (depth_of s.now.nest)) (dependence s.now.nest i)))
-        (to_ℕ (get_or s.now.nest.boundaries i (pos 0))) }
-    ensures upper_bound { result ≤ max_weight * max_boundary }
-{
-    let source = s.source_at(point, i);
-    edge_at(s, i).read(values, source)
+// The values of the iterations of an accepted nest, in front of a table.
+#[derive(Clone, Copy)]
+struct Known<'a> {
+    nest: &'a AcceptedNest,
+    values: &'a [u16],
+    ghost room: { nest.now.iterations ≤ length values.now },
 }
 
-// The value of iteration k of an accepted nest, whose index point is given, where the iterations
-// have these values: the weighted sum of its source values.
-fn value_from(s: &AcceptedNest, values: &[u16], point: [i64; LoopNest::MAX_DEPTH], k: usize) -> u16
-    requires { (k < s.now.iterations) × (s.now.iterations ≤ length values.now)
-        × (point ≡ padded max_depth (get_or (points_of s.now.nest) k [])) }
-    ensures { result ≡ value_of (rule_of s.now.nest) s.now.nest values.now k }
-{
-    let m = s.count();
-    let mut sum = k;
-    for i in 0..m {
-        sum += weighted_source(s, values, point, i);
+impl<'a> Known<'a> {
+    // The weight of dependence i times the value that is read along it at an index point: the
+    // source's, or the boundary value of dependence i where the source is no iteration.
+    fn weighted_source(&self, point: [i64; LoopNest::MAX_DEPTH], i: usize) -> usize
+        requires { let s = self.now.nest.now.nest in
+            (is_point (points_of s) (part point 0 (depth_of s)) ≡ true) × (i < count_of s) }
+        ensures value { let s = self.now.nest.now in
+            result ≡ to_ℕ (get_or s.nest.weights i (pos 0)) * get_or (take s.iterations self.now.values.now)
+            (rank (points_of s.nest) (source (part point 0 (depth_of s.nest)) (dependence s.nest i)))
+            (to_ℕ (get_or s.nest.boundaries i (pos 0))) }
+        ensures upper_bound { result ≤ max_weight * max_boundary }
+    {
+        let source = self.nest.source_at(point, i);
+        edge_at(self.nest, i).read(self.values, source)
     }
-    (sum % MODULUS) as u16
+
+    // The value of iteration k, whose index point is given: the weighted sum of its source values.
+    fn value_from(&self, point: [i64; LoopNest::MAX_DEPTH], k: usize) -> u16
+        requires { (k < self.now.nest.now.iterations)
+            × (point ≡ padded max_depth (get_or (points_of self.now.nest.now.nest) k [])) }
+        ensures { result
+            ≡ value_of (rule_of self.now.nest.now.nest) self.now.nest.now.nest self.now.values.now k }
+    {
+        let m = self.nest.count();
+        let mut sum = k;
+        // Kept: a source and an edge are asked for by the dependence's number.
+        for i in 0..m {
+            sum += self.weighted_source(point, i);
+        }
+        (sum % MODULUS) as u16
+    }
 }
 
 // The value of iteration k of an accepted nest, where the iterations have these values.
@@ -94,8 +100,8 @@ pub fn value_at(s: &AcceptedNest, values: &[u16], k: usize) -> u16
     requires { (k < s.now.iterations) × (s.now.iterations ≤ length values.now) }
     ensures { result ≡ value_of (rule_of s.now.nest) s.now.nest values.now k }
 {
-    let point = s.point_of(k);
-    value_from(s, values, point, k)
+    let known = Known { nest: s, values };
+    known.value_from(s.point_of(k), k)
 }
 
 // How values are read along the dependences of an accepted nest, in the first places.
@@ -155,30 +161,23 @@ pub fn fill_by_keys(s: &KeyedNest, values: &mut [u16])
     }
 }
 
-// The values of the iterations of an accepted nest, in loop order. `keys` has room for their keys.
-fn fill_within(s: &AcceptedNest, keys: &mut [i64], values: &mut [u16])
-    requires values { s.now.iterations ≤ length values.old }
-    requires keys { s.now.iterations ≤ length keys.old }
-    ensures { values.new ≡ loop (rule_of s.now.nest) s.now.nest s.now.iterations ++ drop s.now.iterations values.old }
-{
-    let keyed = KeyedNest::new(s, keys);
-    fill_by_keys(&keyed, values);
-}
-
 // Up to so many iterations, the table of their keys is small.
 const FEW_ITERATIONS: usize = 512;
 
-// The same, with a table of its own for so many keys.
+// The values of the iterations of an accepted nest, in loop order, with room for so many keys.
 fn fill_sized<const ROOM: usize>(s: &AcceptedNest, values: &mut [u16])
     requires values { s.now.iterations ≤ length values.old }
     requires room { (s.now.iterations ≤ ROOM) × (ROOM ≤ max_iterations) }
     ensures { values.new ≡ loop (rule_of s.now.nest) s.now.nest s.now.iterations ++ drop s.now.iterations values.old }
 {
     let mut keys = [0i64; ROOM];
-    fill_within(s, &mut keys, values);
+    let keyed = KeyedNest::new(s, &mut keys);
+    fill_by_keys(&keyed, values);
 }
 
 // The same: the table of keys is no larger than it has to be, since it is cleared whole.
+// Kept: the room of the table that these functions write is a clause. A type that held the loan
+// would have to say what it leaves of it, so it is no plainer.
 fn fill_values(s: &AcceptedNest, values: &mut [u16])
     requires { s.now.iterations ≤ length values.old }
     ensures { values.new ≡ loop (rule_of s.now.nest) s.now.nest s.now.iterations ++ drop s.now.iterations values.old }

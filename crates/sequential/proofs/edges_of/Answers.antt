@@ -28,9 +28,6 @@ slice_bounds-edges-end c = (few (goal.at.slice_bounds-edges-end c).After-count-m
 pub slice_bounds-edge-items-end : goal.slice_bounds-edge-items-end
 slice_bounds-edge-items-end c = sym (few (goal.at.slice_bounds-edge-items-end c).After-count-m).1
 
-pub edge_at-requires : goal.edge_at-requires
-edge_at-requires c = (turn (goal.at.edge_at-requires c).In-loop-i).0
-
 pub loop-i-preserved : goal.loop-i-preserved
 loop-i-preserved c =
     let l = c.loop-i in

@@ -51,9 +51,6 @@ slice_bounds-distances-end c = omega (arith, few (goal.at.slice_bounds-distances
 pub slice_bounds-new-end : goal.slice_bounds-new-end
 slice_bounds-new-end c = sym (distances-length (goal.at.slice_bounds-new-end c).After-count-m)
 
-pub new-sources-requires-clause-few : goal.new-sources-requires-clause-few
-new-sources-requires-clause-few c = let t = (goal.at.new-sources-requires-clause-few c).After-count-m in omega (arith, few t, distances-length t)
-
 pub new-sources-requires-clause-searchable : goal.new-sources-requires-clause-searchable
 new-sources-requires-clause-searchable c =
     let t = (goal.at.new-sources-requires-clause-searchable c).After-count-m in

@@ -4,10 +4,10 @@ use mathlib.Core.Path.{◌≡◌}
 use Prim.Native.Nat.{◌+◌, ◌*◌, ◌-◌, ◌≤◌}
 use Rattle.nest.specs.Nest.{max_boundary, max_weight}
 use Rattle.sequential.proofs.SumLaws.{sum_to}
-use Rattle.sequential.proofs.value_from.Given as goal
+use Rattle.sequential.proofs.Known.value_from.Given as goal
 
 abbrev pub invariant-loop-i : goal.invariant-loop-i
-invariant-loop-i l = (l.i ≤ l.m) × (l.sum ≡ l.k + sum_to l.s.nest l.values l.k l.i) × (l.sum ≤ l.k + l.i * (max_weight * max_boundary))
+invariant-loop-i l = (l.i ≤ l.m) × (l.sum ≡ l.k + sum_to l.self.nest.now.nest l.self.values.now l.k l.i) × (l.sum ≤ l.k + l.i * (max_weight * max_boundary))
 
 abbrev pub decreases-loop-i : goal.decreases-loop-i
 decreases-loop-i l = l.m - l.i
