@@ -34,6 +34,7 @@ impl Dealing {
 }
 
 // The directions when c bits are dealt.
+#[tactic(auto, using(crate::proofs::Arrays::dealing_end))]
 pub fn deal(
     directions: [Direction; LoopNest::MAX_DEPTH],
     c: usize,

@@ -25,6 +25,7 @@ fn processor_of(directions: &[Direction; LoopNest::MAX_DEPTH], row: &Row) -> u8
 }
 
 // The processor of each row, in directions that hold all of them.
+#[tactic(auto, using(numbering::proofs::Filled::filled_none, numbering::proofs::Filled::filled_more))]
 fn fill_processors(
     directions: &[Direction; LoopNest::MAX_DEPTH],
     rows: &[Row],
@@ -52,6 +53,7 @@ fn block_processors(groups: &BlockGroups, c: usize, processors: &mut [u8])
 }
 
 // The processor of each iteration: that of its block.
+#[tactic(auto, using(numbering::proofs::Filled::filled_none, numbering::proofs::Filled::filled_more))]
 fn place_iterations(owners: &[u8], blocks: &[u16], processors: &mut [u8])
     requires { (length blocks.now ≤ length processors.old)
         × ((k : ℕ) → k < length blocks.now → get_or blocks.now k 0 < length owners.now) }

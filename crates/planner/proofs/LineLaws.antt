@@ -6,10 +6,10 @@ use Prim.Native.Nat.{ℕ, zero, suc, ◌+◌, ◌*◌, ◌<◌}
 use native.Mathlib.Nat.{le_of_suc-le-suc, not-suc-le-zero, zero-add}
 use native.Mathlib.Omega.{arith}
 use lib.IntN.{ℤ, pos}
-use lib.ListN.{length, get_or, length-map, get_or-map}
-use mir.Syntax.{w64}
-use mir.Val.{to_z}
-use mir.Facts.{to_z_pos}
+use lib.ListN.{length, get_or, length-append, length-map, get_or-map}
+use lib.Seq.{get_or_at}
+use Rattle.std.specs.Iterator.{Yields}
+use Rattle.std.specs.Array.{list_steps}
 use Rattle.integers.proofs.Linear.{ints}
 use Rattle.integers.specs.Lists.{tab}
 use Rattle.integers.proofs.Lists.{tab-list}
@@ -44,13 +44,24 @@ nth_small (x ∷ xs) h (suc i) l = nth_small xs h.1 i (le_of_suc-le-suc l)
 small-columns : (n : ℕ) → n < 1000000 → InColumns (pos n)
 small-columns n h = count-columns 0 n (pos n) (omega arith) (omega ints, omega ints)
 
+-- ---- numbers that are taken one by one
+yielded : (all xs left : List ℕ) → Yields list_steps all xs left → all ≡ xs ++ left
+yielded all [] left y = y
+yielded all (x ∷ xs) left y = y.1 ∙ ap (λ ys. x ∷ ys) (yielded y.0 xs left y.2)
+
+-- the next one is that at its place
+pub next_taken : (all xs left : List ℕ) (x : ℕ) (rest : List ℕ) → Yields list_steps all xs left → left ≡ x ∷ rest → (length xs < length all) × (get_or all (length xs) 0 ≡ x)
+next_taken all xs left x rest y e =
+    let whole = yielded all xs left y ∙ ap (λ ys. xs ++ ys) e in
+    (omega (arith, ap length whole, length-append xs (x ∷ rest)), ap (λ l. get_or l (length xs) 0) whole ∙ get_or_at xs x rest 0 (length xs) refl)
+
 -- ---- a line of n such numbers
 module _ (xs : List ℕ) (n : ℕ) (e : length xs ≡ n) (h : (i : ℕ) → i < n → get_or xs i 0 < 1000000) where
-  -- the machine holds each as it is
-  pub held : tab (λ i. to_z w64 (get_or xs i 0)) n ≡ map pos xs
-  held =
-      tab-list (λ i. to_z w64 (get_or xs i 0)) (map pos xs) (pos 0) n (length-map xs pos ∙ e)
-      (λ i l. let b = h i l in to_z_pos w64 (omega arith) ∙ sym (get_or-map pos xs i 0))
+  -- made one by one
+  pub made : {ys : List ℤ} → length ys ≡ n → ((i : ℕ) → i < n → get_or ys i (pos 0) ≡ pos (get_or xs i 0)) → ys ≡ map pos xs
+  made {ys} l each =
+      sym (tab-list (λ i. pos (get_or xs i 0)) ys (pos 0) n l (λ i b. sym (each i b)))
+      ∙ tab-list (λ i. pos (get_or xs i 0)) (map pos xs) (pos 0) n (length-map xs pos ∙ e) (λ i b. sym (get_or-map pos xs i 0))
 
   -- each has room
   pub counts_fit : {ys : List ℤ} → ys ≡ map pos xs → EachInColumns ys 0 n

@@ -19,14 +19,7 @@ pub fn put_counts(out: &mut [u8], at: usize, counts: [usize; NUMBERS]) -> usize
     requires { (at + row_bytes ≤ length out.old) × ((i : ℕ) → i < row_width → get_or counts i 0 < seven_digits) }
     ensures { Stored out.old at (line (map pos counts)) out.new result }
 {
-    // Kept: five casts, each below its bound; a proof learns nothing of an array's `map`.
-    let numbers = [
-        counts[0] as i64,
-        counts[1] as i64,
-        counts[2] as i64,
-        counts[3] as i64,
-        counts[4] as i64,
-    ];
+    let numbers = counts.map(|count| count as i64);
     nest_text::put_line(out, at, &numbers)
 }
 

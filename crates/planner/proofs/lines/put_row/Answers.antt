@@ -16,9 +16,6 @@ row c = c.args.rank ∷ c.args.step ∷ c.args.block ∷ c.args.processor ∷ c.
 row_small : (c : Start) → (i : ℕ) → i < 5 → get_or (row c) i 0 < 1000000
 row_small c = nth_small (row c) (omega arith, (omega arith, (omega arith, (omega arith, (omega arith, tt)))))
 
-pub put_counts-requires : goal.put_counts-requires
-put_counts-requires c = (omega arith, row_small (goal.at.put_counts-requires c).Start)
-
 pub returns : goal.returns
 returns c =
     let at_start = (goal.at.returns c).Start in

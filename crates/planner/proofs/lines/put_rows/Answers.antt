@@ -51,15 +51,6 @@ row : (c : In-Some) → let a = c.args in let i = c.in-Some in pos i.rank ∷ po
 unfolding row_of
 row c = λ i. pos (c.in-Some.ensures.steps.1 i) ∷ pos (sym ((step c).here 0) i) ∷ pos (sym ((block c).here 0) i) ∷ pos (sym ((processor c).here 0) i) ∷ pos (sym ((value c).here 0) i) ∷ []
 
-pub put_row-end-requires : goal.put_row-end-requires
-put_row-end-requires c =
-    let t = (goal.at.put_row-end-requires c).In-Some in
-    let i = c.loop-rank.invariant in
-    let b = (step t).below in
-    let n = c.requires.iterations_in_bounds in
-    let s = c.requires.by_index (k t) b in
-    (omega (arith, i.end, b, n.0, c.loop-rank.auto.out), (omega (arith, c.in-Some.ensures.steps.1, b, n.1), rw ((step t).here 0) at s))
-
 pub loop-rank-preserved : goal.loop-rank-preserved
 loop-rank-preserved c =
     let t = (goal.at.loop-rank-preserved c).In-Some in

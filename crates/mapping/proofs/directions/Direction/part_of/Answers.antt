@@ -2,14 +2,9 @@
 use borrow.Author.Rules.{rules}
 use mathlib.Core.Path.{◌≡◌, ap, sym, subst, ◌∙◌}
 use Prim.Native.Nat.{◌+◌, ◌*◌, ◌/◌, ◌^◌, ◌<◌, ◌≤◌}
-use native.Mathlib.Nat.{mul-le-mul}
 use native.Mathlib.Omega.{arith}
-use lib.Pow.{pow_mono}
 use lib.IntN.{◌-ℤ◌}
-use Rattle.integers.proofs.Bounds.{abs_sub}
-use Rattle.integers.proofs.Linear.{ints, dif}
-use Rattle.nest.specs.Nest.{to_ℕ, max_cube}
-use Rattle.nest.proofs.Counted.{size_is}
+use Rattle.nest.specs.Nest.{to_ℕ}
 use Rattle.mapping.specs.Mapping.{part_of}
 use Rattle.mapping.specs.Held.{direction_of}
 use Rattle.mapping.specs.GroupNumbers.{max_number}
