@@ -75,12 +75,9 @@ module _ (text old : Bytes) (room : 127007 ≤ length old) (r : Writing) (new : 
         ends = put_length (read_refusal text) bytes old r new w none ∙ sym (zero-add (length bytes));
       })
 
-  -- either way the bytes that are printed lie within the buffer
+  -- the bytes that are printed lie within the buffer
   pub plan-within : r.refusal ≡ 0 → IsPrefixLen r.length new
   plan-within z =
       let e : read_refusal text ≡ 0 = sym own_number ∙ z in
       let S = plan-printed z in
       within new r.length (omega (arith, S.ends, stored-length S, ap length (listing-plan text e), plan-most text e))
-
-  pub number-within : {last : Bytes} {end : ℕ} → (r.refusal ≡ 0 → ⊥) → Stored new 0 (line (pos r.refusal ∷ [])) last end → end ≡ 7 → IsPrefixLen end last
-  number-within {last} {end} h S e = within last end (omega (arith, stored-length S, ap length (untouched h)))

@@ -1,8 +1,8 @@
 -- What a reader's bytes are in the buffer that they are read into, and what is printed for them. Assumes nothing.
-use Rattle.std.proofs.Common.{◌≡◌, ℕ, ◌+◌, ◌-◌, ◌≤◌, List, ◌++◌, None, Some, IfSome, length, take, drop, slice_range, sym, ap, ◌∙◌, subst, arith, le_refl, drop_at, length-take-le, take_all}
+use Rattle.std.proofs.Common.{◌≡◌, ℕ, ◌+◌, ◌-◌, ◌≤◌, List, ◌++◌, None, Some, IfSome, length, take, drop, slice_range, sym, ap, ◌∙◌, subst, arith, le_refl, drop_at, length-take-le}
 use Rattle.std.proofs.lemmas.Slice.{take-put_mid_below}
-use Rattle.std.proofs.KnownBytes.{Consumes-trans, Consumes-whole}
-use Rattle.std.specs.Io.KnownBytes.{Consumes, Appends, IsAtEnd}
+use Rattle.std.proofs.KnownBytes.{Consumes-trans}
+use Rattle.std.specs.Io.KnownBytes.{Consumes, Appends}
 use Rattle.std.specs.declared.option.Option.{Option}
 use borrow.Rule.Slice.PartMut.{put_mid, post_of}
 use lib.Seq.{take-add, take-append-le, take-append_seam, sets-eq}
@@ -30,29 +30,6 @@ reads-on a b c xs ys from room n within fits before read =
     let joined : take from xs ++ slice_range new from (from + n) ≡ take (from + n) new =
     ap (λ l. l ++ slice_range new from (from + n)) (sym front) ∙ sym (take-add from ((from + n) - from) new) ∙ ap (λ k. take k new) same in
     subst (Consumes a c) (ap (λ l. take from xs ++ l) (sym (part-after from room n xs ys within fits)) ∙ joined) (Consumes-trans a b c _ _ before read)
-
--- a buffer that is full, and one that has room when the input is at its end, hold the first bytes of the input
-pub full : (a b : Option (List ℕ)) (buffer : List ℕ) (n : ℕ) → length buffer ≤ n → Consumes a b (take n buffer)
-    → IfSome a (λ text. take n buffer ≡ take (length buffer) text)
-full None b buffer n h p = tt
-full (Some text) None buffer n h p = absurd p
-full (Some text) (Some rest) buffer n h p =
-    let all : take n buffer ≡ buffer = take_all n buffer h in
-    all ∙ sym (ap (take (length buffer)) (p ∙ ap (λ l. l ++ rest) all) ∙ take-append_seam buffer rest)
-
-ended : (a b : Option (List ℕ)) (buffer : List ℕ) (n : ℕ) → n ≤ length buffer → IsAtEnd b → Consumes a b (take n buffer)
-    → IfSome a (λ text. take n buffer ≡ take (length buffer) text)
-ended a b buffer n h end p =
-    Consumes-whole a b (take n buffer) (λ text. take n buffer ≡ take (length buffer) text) p end
-    (sym (take_all (length buffer) (take n buffer) (omega (arith, length-take-le n buffer h))))
-
-pub ends-there : (a b c : Option (List ℕ)) (xs ys : List ℕ) (from room n : ℕ) → from ≤ length xs → n ≤ length ys → n ≡ 0
-    → from ≤ length (put_mid from room xs ys) → Consumes a b (take from xs) → Consumes b c (take n ys) → IsAtEnd c
-    → IfSome a (λ text. take from (put_mid from room xs ys) ≡ take (length (put_mid from room xs ys)) text)
-ends-there a b c xs ys from room n within fits none inside before read end =
-    let new = put_mid from room xs ys in
-    let same : from + n ≡ from = omega (arith, none) in
-    ended a c new from inside end (subst (λ (k : ℕ). Consumes a c (take k new)) same (reads-on a b c xs ys from room n within fits before read))
 
 -- what is printed for the bytes in the buffer is printed for the whole text
 pub shown : (a old new : Option (List ℕ)) (room most : ℕ) (bytes printed : List ℕ) → room ≡ most → IfSome a (λ text. bytes ≡ take room text)

@@ -20,6 +20,7 @@ const MOST_PRINTED: usize = 127007;
 
 // The buffer that the text is read into. It has room for so many bytes of an input that they decide
 // what is printed.
+#[tactic(auto, using(crate::proofs::Input::input_decided))]
 fn input_buffer() -> [u8; MOST_READ]
     ensures read_most_value { read_most ≡ length result }
     ensures by_index { (text : List ℕ) → listing (take (length result) text) ≡ listing text }

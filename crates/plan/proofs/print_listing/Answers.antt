@@ -1,12 +1,7 @@
 -- What `print_listing` prints is the listing of the whole input.
-use Rattle.std.proofs.Common.{arith}
 use Rattle.std.proofs.lemmas.Result.{on_ok_weaker}
 use Rattle.plan.proofs.Reading.{shown, stored-start}
 use Rattle.plan.proofs.print_listing.Goals as goal
-
--- the buffer has room for the longest listing
-pub put_listing-length-requires : goal.put_listing-length-requires
-put_listing-length-requires g c = omega arith
 
 pub returns : goal.returns
 returns g c =

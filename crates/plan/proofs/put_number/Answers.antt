@@ -6,7 +6,7 @@ use lib.IntN.{pos}
 use Rattle.integers.specs.Lists.{tab}
 use Rattle.integers.proofs.Bounds.{told}
 use Rattle.integers.proofs.Machine.{reads}
-use Rattle.planner.proofs.LineLaws.{AllSmall, nth_small, counts_fit, counts-stored, counts-length}
+use Rattle.planner.proofs.LineLaws.{AllSmall, nth_small, counts-stored, counts-length}
 use Rattle.plan.proofs.put_number.Goals as goal
 use Rattle.plan.proofs.put_number.Goals.{Start, After-from}
 
@@ -16,13 +16,6 @@ small c = (omega arith, tt)
 
 stored : (c : After-from) → reads c.from.result ≡ pos c.args.x
 stored c = told c.from.result c.from.type_inv ∙ c.from.ensures
-
-pub put_line-requires : goal.put_line-requires
-unfolding tab
-put_line-requires c =
-    let xs = c.args.x ∷ [] in
-    let h = nth_small xs (small (goal.at.put_line-requires c).Start) in
-    (omega arith, counts_fit xs 1 refl h (ap (λ z. z ∷ []) (stored (goal.at.put_line-requires c).After-from)))
 
 pub returns : goal.returns
 unfolding tab
