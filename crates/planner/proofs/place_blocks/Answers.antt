@@ -54,17 +54,6 @@ number_at c k h =
     get_or-take t.iterations c.blocks_into-count.new.blocks k 0 h ∙ ap (λ (l : List ℕ). get_or l k 0) c.blocks_into-count.ensures.blocks_after
     ∙ get_or-before 0 (blocks_of t.nest) (drop (length (points_of t.nest)) c.args.blocks.now) k (omega (arith, blocks-length t.nest t.accepted, h, t.counted))
 
-pub blocks_into-count-requires : goal.blocks_into-count-requires
-blocks_into-count-requires c =
-    let t = c.args.s.now.nest.now in
-    (few-points t.nest t.accepted, omega (arith, t.counted, c.requires.0))
-
-pub slice_bounds-groups-end : goal.slice_bounds-groups-end
-slice_bounds-groups-end c = few (goal.at.slice_bounds-groups-end c).After-blocks_into-count
-
-pub slice_bounds-groups-end-2 : goal.slice_bounds-groups-end-2
-slice_bounds-groups-end-2 c = sym (rows_long (goal.at.slice_bounds-groups-end-2 c).After-blocks_into-count)
-
 -- there are as many as blocks, and so one
 pub invariant_of-groups-clause-some : goal.invariant_of-groups-clause-some
 invariant_of-groups-clause-some c =
@@ -76,6 +65,17 @@ invariant_of-groups-clause-span c =
     let b = (goal.at.invariant_of-groups-clause-span c).After-blocks_into-count in
     let t = c.args.s.now.nest.now in
     has_rows t.nest t.accepted (rows b) (groups_laid b) (length (rows b)) (rows_long b ∙ c.blocks_into-count.ensures.value) (omega arith)
+
+pub blocks_into-count-requires : goal.blocks_into-count-requires
+blocks_into-count-requires c =
+    let t = c.args.s.now.nest.now in
+    (few-points t.nest t.accepted, omega (arith, t.counted, c.requires.0))
+
+pub slice_bounds-groups-end : goal.slice_bounds-groups-end
+slice_bounds-groups-end c = few (goal.at.slice_bounds-groups-end c).After-blocks_into-count
+
+pub slice_bounds-groups-end-2 : goal.slice_bounds-groups-end-2
+slice_bounds-groups-end-2 c = sym (rows_long (goal.at.slice_bounds-groups-end-2 c).After-blocks_into-count)
 
 pub processors_into-requires-clause-limits : goal.processors_into-requires-clause-limits
 processors_into-requires-clause-limits c =
