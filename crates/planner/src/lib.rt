@@ -52,6 +52,8 @@ fn place_blocks(s: &KeyedNest, blocks: &mut [u16], processors: &mut [u8]) -> usi
 }
 
 // The plan of an accepted nest, into four tables.
+// Kept: each table is lent by itself, as to `plan`; a type over the four would have to say what
+// stands in each before and after, as the clauses do.
 fn make(
     s: &AcceptedNest,
     steps: &mut [u32],
@@ -86,6 +88,7 @@ fn make(
 
 // The plan of a loop nest, into four tables: its counts, or the first refusal, 2 to 14, with the
 // tables as they were.
+// Kept: four tables, as the entry of C and the document have them.
 pub fn plan(
     s: LoopNest,
     steps: &mut [u32],

@@ -11,14 +11,14 @@ use lib.ListN.{length, get_or, take}
 use Rattle.integers.specs.Lists.{tab, total}
 use Rattle.integers.proofs.Lists.{tab-more}
 use Rattle.nest.specs.declared.LoopNest.{LoopNest}
-use Rattle.nest.specs.Nest.{to_ℕ, count_of, max_boundary, max_weight}
+use Rattle.nest.specs.Nest.{to_ℕ, count_of}
 use Rattle.nest.specs.Points.{points_of}
 use Rattle.nest.specs.Sources.{source_rank}
-use Rattle.sources.specs.Keys.{source_in, Searchable}
-use Rattle.sources.proofs.Cursors.{OfNest, keyed-length, keyed_search, keyed-source}
+use Rattle.sources.specs.Keys.{source_in}
+use Rattle.sources.proofs.Cursors.{OfNest, keyed-length, keyed-source}
 use Rattle.sequential.specs.ByKeys.{term_in, value_in}
 use Rattle.sequential.specs.Sequential.{source_value, value_of, rule_of, modulus}
-use Rattle.sequential.proofs.SourceLaws.{source-read, boundary-most, weight-most}
+use Rattle.sequential.proofs.SourceLaws.{source-read}
 use Rattle.sequential.proofs.SumLaws.{sum_to, sum-none, sum_more, sum-all}
 
 -- one number more
@@ -64,14 +64,6 @@ module _ (s : LoopNest) (keys : List ℤ) (m : ℕ) (distances : List ℤ) (weig
   -- one of m dependences is one of the nest
   own : (i : ℕ) → i < m → i < count_of s
   own i h = subst (λ n. i < n) U.keyed.count h
-
-  -- sources can be searched for, and the weights and boundary values are in span
-  pub uses_search : (i : ℕ) → i < m → Searchable keys (get_or distances i (pos 0)) × (get_or weights i 0 ≤ max_weight) × (get_or boundaries i 0 ≤ max_boundary)
-  uses_search i h = (
-    keyed_search s keys m distances U.keyed i h,
-    omega (arith, U.weights_are i h, weight-most s U.keyed.accepted i (own i h)),
-    omega (arith, U.boundaries_are i h, boundary-most s U.keyed.accepted i (own i h)),
-  )
 
   module _ (values : List ℕ) (k : ℕ) (h : k < length (points_of s)) where
     -- what is read along dependence i
