@@ -9,6 +9,8 @@ use Prim.Native.Nat.{ℕ, ◌+◌, ◌^◌, ◌≤◌, ◌<◌}
 use native.Mathlib.Omega.{arith}
 use borrow.Author.Tests.{eq-eqb, ne_eqb, lt-ltb}
 use lib.ListN.{length, get_or, set}
+use Rattle.std.proofs.Common.{true≢false}
+use Rattle.integers.proofs.Lists.{and_true, split}
 use Rattle.nest.specs.declared.LoopNest.{LoopNest}
 use Rattle.std.specs.Prelude.{Result}
 use Rattle.std.specs.Result.{IsErrAnd}
@@ -28,11 +30,11 @@ use Rattle.execution.specs.Answer.{Answer, Computed, Delivered, Refused, answer_
 use Rattle.execution.specs.Rules.{every, Move, compute, deliver, Effect, refuse, iteration, message, answer, Layout, View, there, source_done, ready, taking, effect}
 use Rattle.execution.specs.Run.{State, bit, state_view, move_refusal, state_refusal, move_effect, after}
 use Rattle.execution.specs.Entry.{layout_in, state_in, number_of, answer_of, Makes}
-use Rattle.execution.specs.Inner.{view_in, Delivers, ready_from, delivery_answer, delivery_left, Room}
+use Rattle.execution.specs.Inner.{view_in, Delivers, ready_from, Room}
 use Rattle.execution.proofs.Base.{eq?, every-same}
 use Rattle.execution.proofs.RuleLaws.{effect-number, Numbered, move-refused, move_rules, taking-none, taking-ready, taking-waits, delivering-ready, delivering-refused, compute-there, compute_nowhere, deliver-there, deliver_nowhere, message-some, not_ready}
 use Rattle.execution.proofs.FindingLaws.{taken_of}
-use lib.Dec.{eqb}
+use lib.Dec.{eqb, ltb}
 use Rattle.nest.proofs.PointLaws.{source_iff}
 
 -- ---- by the effect
@@ -153,21 +155,6 @@ module _ (s : LoopNest) (processors done delivered : List ℕ) (n : ℕ) (count 
   same-ready : (steps : List ℕ) (b : Bool) → b ≡ ready s (view_in [] processors done delivered) k i → ready s (view_in steps processors done delivered) k i ≡ b
   same-ready steps b q = sym (q ∙ ap (λ d. is_message s processors k i && (d && not (bit i (get_or delivered k 0)))) (same_source steps (source_rank s k i)))
 
-  module _ (m : ℕ) (b : Bool) (dependences : m ≡ count_of s) (hk : k < n) (hi : i < m) (q : b ≡ ready s (view_in [] processors done delivered) k i) where
-    -- the message cannot be delivered
-    pub out_of_turn : b ≡ false → Comes (Refused 16) delivered
-    out_of_turn f =
-        delivery_by (refuse 16) (Refused 16) delivered
-        (λ steps. let v = view_in steps processors done delivered in deliver-there s v k i (omega arith) (omega arith) ∙ delivering-refused s v k i (same-ready steps b q ∙ f))
-        (λ values. refused s (state_in values done delivered) 16)
-
-    -- it is delivered
-    pub delivery : (x : ℕ) → b ≡ true → x ≡ get_or delivered k 0 + 2 ^ i → Comes (Delivered (record { rank = k; dependence = i })) (set delivered k x)
-    delivery x t e =
-        delivery_by (message k i) (Delivered (record { rank = k; dependence = i })) (set delivered k x)
-        (λ steps. let v = view_in steps processors done delivered in deliver-there s v k i (omega arith) (omega arith) ∙ delivering-ready s v k i (same-ready steps b q ∙ t))
-        (λ values. delivers s values done delivered k i x e)
-
   -- where the source is known the test is that of the message
   ready-from : (o : Option ℕ) → o ≡ source_rank s k i → ready_from o n processors done delivered k i ≡ ready s (view_in [] processors done delivered) k i
   ready-from none e = sym (not_ready s (view_in [] processors done delivered) k i (sym e))
@@ -175,16 +162,34 @@ module _ (s : LoopNest) (processors done delivered : List ℕ) (n : ℕ) (count 
       ap (λ b. b && (not (eqb (get_or processors j 0) (get_or processors k 0)) && (not (eqb (get_or done j 0) 0) && not (bit i (get_or delivered k 0))))) (lt-ltb j n (omega (arith, ((source_iff s k i j).0 (sym e)).0)))
       ∙ sym (ap₂ (λ (a b : Bool). a && (b && not (bit i (get_or delivered k 0)))) (message-some s processors k i j (sym e)) (ap (source_done (view_in [] processors done delivered)) (sym e)))
 
-  -- so what is answered and left by it is what the move comes to
-  pub delivers-from : (o : Option ℕ) (r : Answer) (delivered' : List ℕ) → k < n → i < count_of s → o ≡ source_rank s k i
-      → r ≡ delivery_answer (ready_from o n processors done delivered k i) k i → delivered' ≡ delivery_left (ready_from o n processors done delivered k i) delivered k i → Comes r delivered'
-  delivers-from o r delivered' hk hi e p q =
-      subst (λ a. Comes a delivered') (sym p)
-      (subst (λ l. Comes (delivery_answer (ready_from o n processors done delivered k i) k i) l) (sym q) (by (ready_from o n processors done delivered k i) (ready-from o e)))
-    where
-      by : (b : Bool) → b ≡ ready s (view_in [] processors done delivered) k i → Comes (delivery_answer b k i) (delivery_left b delivered k i)
-      by true t = delivery (count_of s) true refl hk hi t (get_or delivered k 0 + 2 ^ i) refl refl
-      by false t = out_of_turn (count_of s) false refl hk hi t refl
+  module _ (o : Option ℕ) (source : o ≡ source_rank s k i) (hk : k < n) (hi : i < count_of s) (b : Bool) (q : b ≡ ready_from o n processors done delivered k i) where
+    -- whatever the steps
+    readiness : (steps : List ℕ) → ready s (view_in steps processors done delivered) k i ≡ b
+    readiness steps = same-ready steps b (q ∙ ready-from o source)
+
+    -- the message cannot be delivered
+    pub out_of_turn : b ≡ false → Comes (Refused 16) delivered
+    out_of_turn f =
+        delivery_by (refuse 16) (Refused 16) delivered
+        (λ steps. let v = view_in steps processors done delivered in deliver-there s v k i (omega arith) hi ∙ delivering-refused s v k i (readiness steps ∙ f))
+        (λ values. refused s (state_in values done delivered) 16)
+
+    -- it is delivered
+    pub delivery : (x : ℕ) → b ≡ true → x ≡ get_or delivered k 0 + 2 ^ i → Comes (Delivered (record { rank = k; dependence = i })) (set delivered k x)
+    delivery x t e =
+        delivery_by (message k i) (Delivered (record { rank = k; dependence = i })) (set delivered k x)
+        (λ steps. let v = view_in steps processors done delivered in deliver-there s v k i (omega arith) hi ∙ delivering-ready s v k i (readiness steps ∙ t))
+        (λ values. delivers s values done delivered k i x e)
+
+-- the bit of a message that can be delivered is 0
+pub bit_free : (o : Option ℕ) (n : ℕ) (processors done delivered : List ℕ) (k i : ℕ) → ready_from o n processors done delivered k i ≡ true → bit i (get_or delivered k 0) ≡ false
+bit_free none n processors done delivered k i t = absurd (true≢false (sym t))
+bit_free (some j) n processors done delivered k i t =
+    let crosses = not (eqb (get_or processors j 0) (get_or processors k 0)) in
+    let computed = not (eqb (get_or done j 0) 0) in
+    let free = not (bit i (get_or delivered k 0)) in
+    let h = (and_true computed free (and_true crosses (computed && free) (and_true (ltb j n) (crosses && (computed && free)) t).1).1).1 in
+    split (bit i (get_or delivered k 0)) (λ y. absurd (true≢false (sym h ∙ ap not y))) (λ f. f)
 
 -- ---- the ways out of the entry
 

@@ -1,14 +1,14 @@
 -- Serves the contracts of inner functions alone: what a move looks at, and what a compute and a
 -- delivery answer and leave once the nest is accepted and every buffer is long enough.
 -- Assumes nothing.
-use Rattle.std.specs.Prelude.{◌≡◌, Bool, true, false, not, ◌&&◌, List, [], ℕ, ◌+◌, ◌^◌, ◌≤◌, eqb, ltb, length, get_or}
-use Rattle.std.specs.Prelude.{set, Option as Found, Some, None}
+use Rattle.std.specs.Prelude.{◌≡◌, Bool, false, not, ◌&&◌, List, [], ℕ, ◌≤◌, eqb, ltb, length, get_or}
+use Rattle.std.specs.Prelude.{Option as Found, Some, None}
 use Rattle.std.proofs.Math.Option.{Option, none, some}
 use Rattle.nest.specs.declared.LoopNest.{LoopNest}
 use Rattle.sequential.specs.Sequential.{rule_of}
 use Rattle.execution.specs.declared.PlanTables.{PlanTables}
 use Rattle.execution.specs.declared.RunState.{RunState}
-use Rattle.execution.specs.Answer.{Answer, Delivered, Refused}
+use Rattle.execution.specs.Answer.{Answer}
 use Rattle.execution.specs.Rules.{Move, deliver, Layout, View, effect}
 use Rattle.execution.specs.Run.{State, state_view, bit, after}
 use Rattle.execution.specs.Entry.{layout_in, state_in, answer_of}
@@ -64,10 +64,3 @@ ready_from none iterations processors done delivered k i = false
 ready_from (some j) iterations processors done delivered k i =
     ltb j iterations && (not (eqb (get_or processors j 0) (get_or processors k 0))
     && (not (eqb (get_or done j 0) 0) && not (bit i (get_or delivered k 0))))
-
--- what is answered, and what is left
-abbrev pub delivery_answer : Bool → ℕ → ℕ → Answer
-delivery_answer b k i = elim b [ true ↦ Delivered (record { rank = k; dependence = i }) | false ↦ Refused 16 ]
-
-abbrev pub delivery_left : Bool → List ℕ → ℕ → ℕ → List ℕ
-delivery_left b delivered k i = elim b [ true ↦ set delivered k (get_or delivered k 0 + 2 ^ i) | false ↦ delivered ]

@@ -4,16 +4,18 @@
 #![tactic(auto)]
 
 mod finding;
+mod run_nest;
 
-ghost use Rattle.std.specs.Prelude.{◌≡◌, ◌≤◌, ◌^◌, ◌<◌, length};
-ghost use Rattle.nest.specs.Nest.{to_ℕ, max_cube, max_dependences};
+ghost use Rattle.std.specs.Prelude.{◌≡◌, ◌≤◌, ◌^◌, length};
+ghost use Rattle.nest.specs.Nest.{to_ℕ, max_cube};
+ghost use Rattle.nest.specs.Points.{points_of};
 ghost use Rattle.execution.specs.Rules.{compute};
 ghost use Rattle.execution.specs.Answer.{answer_in};
 ghost use Rattle.execution.specs.Entry.{layout_in, state_in, move_of, Makes};
 ghost use Rattle.execution.specs.Inner.{tables_layout, state_lent, Room, Answers, Leaves, Delivers};
-ghost use Rattle.execution.specs.Inner.{option_in, ready_from, delivery_answer, delivery_left};
 
 use crate::finding::Seen;
+pub use crate::run_nest::RunNest;
 use nest::{AcceptedNest, LoopNest, Refusal};
 
 // A message, by the iteration that gets it and the dependence that it comes along.
@@ -77,12 +79,7 @@ fn processors_in(s: &AcceptedNest) -> usize
 
 // A compute on processor p, of an accepted nest: the iteration that it takes gets its value and its
 // done byte, if its sources are there.
-pub fn compute(
-    s: &AcceptedNest,
-    p: usize,
-    tables: PlanTables,
-    state: RunState,
-) -> Result<Done, Refusal>
+fn compute(s: &AcceptedNest, p: usize, tables: PlanTables, state: RunState) -> Result<Done, Refusal>
     requires room { Room s.now.iterations (tables_layout tables) (state_lent state) }
     ensures answers { Answers s.now.nest (tables_layout tables.entry)
         (state_lent state.entry) (compute p) (answer_in result) }
@@ -117,62 +114,78 @@ pub fn compute(
     Ok(Done::Computed(Computation { rank: k, value }))
 }
 
-// A delivery of a message, whose iteration and dependence are there, and of which the source is
-// known by its rank, or is none of the iterations: its bit is set, if it is a message that can be
+// A delivery of a message, of an accepted nest: its bit is set, if it is a message that can be
 // delivered.
-pub fn deliver_from(
-    source: Option<usize>,
+fn deliver<N: RunNest>(
+    s: &N,
     message: Delivery,
-    // Kept: `make_move` takes buffers that are longer, and promises of them whole (`Makes`).
-    iterations: usize,
     processors: &[u8],
     done: &[u8],
     delivered: &mut [u8],
 ) -> Result<Done, Refusal>
-    requires place { (message.rank < iterations) × (message.dependence < max_dependences) }
-    requires room { (iterations ≤ length processors.now) × (iterations ≤ length done.now)
-        × (iterations ≤ length delivered.old) }
-    ensures value { answer_in result ≡ delivery_answer
-        (ready_from (option_in source) iterations processors.now done.now delivered.old
-        message.rank message.dependence) message.rank message.dependence }
-    ensures delivered_after { delivered.new ≡ delivery_left
-        (ready_from (option_in source) iterations processors.now done.now delivered.old
-        message.rank message.dependence) delivered.old message.rank message.dependence }
+    requires { (length (points_of (N.nest_of s.now)) ≤ length processors.now)
+        × (length (points_of (N.nest_of s.now)) ≤ length done.now)
+        × (length (points_of (N.nest_of s.now)) ≤ length delivered.old) }
+    ensures { Delivers (N.nest_of s.now) processors.now done.now delivered.old
+        message.rank message.dependence (answer_in result) delivered.new }
 {
+    let k = message.rank;
+    let i = message.dependence;
+    let iterations = s.iterations();
+    if iterations <= k || s.count() <= i {
+        return Err(Refusal::NoSuchPlace);
+    }
     let seen = Seen {
         iterations,
         processors,
         done,
         delivered,
     };
-    if !seen.is_ready(source, message) {
+    if !seen.is_ready(s.source(k, i), message) {
         return Err(Refusal::OutOfTurn);
     }
-    let k = message.rank;
-    delivered[k] = finding::with_bit(delivered[k], message.dependence);
+    delivered[k] = finding::with_bit(delivered[k], i);
     Ok(Done::Delivered(message))
 }
 
-// A delivery of a message, of an accepted nest: its bit is set, if it is a message that can be
-// delivered.
-fn deliver(
-    s: &AcceptedNest,
-    message: Delivery,
+// Makes a move of an accepted nest, on the step and processor tables of a plan and on the state's
+// three buffers, all of any content. Answers what the move did, or its refusal, 14, then 18, 17, 15
+// or 16, with no buffer changed.
+pub fn make_accepted_move<N: RunNest>(
+    s: &N,
+    what: Move,
+    steps: &[u32],
     processors: &[u8],
-    done: &[u8],
+    values: &mut [u16],
+    done: &mut [u8],
     delivered: &mut [u8],
 ) -> Result<Done, Refusal>
-    requires { (s.now.iterations ≤ length processors.now) × (s.now.iterations ≤ length done.now)
-        × (s.now.iterations ≤ length delivered.old) }
-    ensures { Delivers s.now.nest processors.now done.now delivered.old
-        message.rank message.dependence (answer_in result) delivered.new }
+    ensures { Makes (N.nest_of s.now) (layout_in steps.now processors.now)
+        (state_in values.old done.old delivered.old)
+        (move_of what) (answer_in result)
+        (state_in values.new done.new delivered.new) }
 {
-    if s.iterations <= message.rank || s.count() <= message.dependence {
-        return Err(Refusal::NoSuchPlace);
+    let rooms = [
+        steps.len(),
+        processors.len(),
+        values.len(),
+        done.len(),
+        delivered.len(),
+    ];
+    nest::check_room(s.iterations(), &rooms)?;
+    // Kept: which move is made is data of the caller's, so an enum is plainer than closures.
+    match what {
+        Move::Compute(p) => {
+            let tables = PlanTables { steps, processors };
+            let state = RunState {
+                values,
+                done,
+                delivered,
+            };
+            compute(&s.copied(), p, tables, state)
+        }
+        Move::Deliver(message) => deliver(s, message, processors, done, delivered),
     }
-    let point = s.point_of(message.rank);
-    let source = s.source_at(point, message.dependence);
-    deliver_from(source, message, s.iterations, processors, done, delivered)
 }
 
 // Makes the move that is asked for, on the step and processor tables of a plan and on the state's
@@ -193,25 +206,13 @@ pub fn make_move(
         (state_in values.new done.new delivered.new) }
 {
     let accepted = nest::accept(s)?;
-    let rooms = [
-        steps.len(),
-        processors.len(),
-        values.len(),
-        done.len(),
-        delivered.len(),
-    ];
-    nest::check_room(accepted.iterations, &rooms)?;
-    // Kept: which move is made is data of the caller's, so an enum is plainer than closures.
-    match request.what {
-        Move::Compute(p) => {
-            let tables = PlanTables { steps, processors };
-            let state = RunState {
-                values,
-                done,
-                delivered,
-            };
-            compute(&accepted, p, tables, state)
-        }
-        Move::Deliver(message) => deliver(&accepted, message, processors, done, delivered),
-    }
+    make_accepted_move(
+        &accepted,
+        request.what,
+        steps,
+        processors,
+        values,
+        done,
+        delivered,
+    )
 }

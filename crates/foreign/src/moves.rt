@@ -1,13 +1,12 @@
 // A move and its answer as numbers.
-ghost use Rattle.std.specs.Prelude.{◌≡◌, ◌≤◌, length};
+ghost use Rattle.std.specs.Prelude.{◌≡◌};
 ghost use Rattle.nest.specs.Outcomes.{number_in};
 ghost use Rattle.execution.specs.Answer.{answer_in};
 ghost use Rattle.execution.specs.Entry.{layout_in, state_in, move_of, Makes};
-ghost use Rattle.execution.specs.Inner.{Delivers};
 ghost use Rattle.foreign.specs.Numbers.{move_in, made_in, nest_in};
 
-use crate::nests::{AcceptedNumbers, NUMBERS, accept_in};
-use execution::{Delivery, Done, Move, PlanTables, RunState};
+use crate::nests::{NUMBERS, accept_in};
+use execution::{Delivery, Done, Move};
 use nest::{LoopNest, Refusal};
 
 // The kinds of a move, numbered as in the machine's log.
@@ -60,26 +59,6 @@ pub fn made_in(answer: Result<Done, Refusal>) -> [usize; 2]
     }
 }
 
-// A delivery of a message, of an accepted nest.
-fn deliver_in(
-    s: &AcceptedNumbers,
-    message: Delivery,
-    processors: &[u8],
-    done: &[u8],
-    delivered: &mut [u8],
-) -> Result<Done, Refusal>
-    requires { (s.now.iterations ≤ length processors.now) × (s.now.iterations ≤ length done.now)
-        × (s.now.iterations ≤ length delivered.old) }
-    ensures { Delivers (nest_in s.now.numbers.now) processors.now done.now
-        delivered.old message.rank message.dependence (answer_in result) delivered.new }
-{
-    if s.iterations <= message.rank || s.count() <= message.dependence {
-        return Err(Refusal::NoSuchPlace);
-    }
-    let source = s.source(message.rank, message.dependence);
-    execution::deliver_from(source, message, s.iterations, processors, done, delivered)
-}
-
 // `make_move` of the nest that 63 numbers are, which stays where it is, and is copied for a compute
 // alone.
 pub fn make_move_in(
@@ -97,25 +76,5 @@ pub fn make_move_in(
         (state_in values.new done.new delivered.new) }
 {
     let accepted = accept_in(numbers)?;
-    let rooms = [
-        steps.len(),
-        processors.len(),
-        values.len(),
-        done.len(),
-        delivered.len(),
-    ];
-    nest::check_room(accepted.iterations, &rooms)?;
-    // Kept: which move is made is data of the caller's, so an enum is plainer than closures.
-    match what {
-        Move::Compute(p) => {
-            let tables = PlanTables { steps, processors };
-            let state = RunState {
-                values,
-                done,
-                delivered,
-            };
-            execution::compute(&accepted.nest(), p, tables, state)
-        }
-        Move::Deliver(message) => deliver_in(&accepted, message, processors, done, delivered),
-    }
+    execution::make_accepted_move(&accepted, what, steps, processors, values, done, delivered)
 }

@@ -10,6 +10,7 @@ ghost use Rattle.nest.specs.Sources.{source_rank};
 ghost use Rattle.execution.specs.Inner.{option_in};
 ghost use Rattle.foreign.specs.Numbers.{nest_in, numbers_of};
 
+use execution::RunNest;
 use nest::{AcceptedNest, LoopNest, NestParts, Refusal};
 
 // Where the parts of a nest begin; the depth, the number of dependences and the cube
@@ -107,34 +108,30 @@ pub fn accept_in<'a>(numbers: &'a [i64; NUMBERS]) -> Result<AcceptedNumbers<'a>,
     })
 }
 
-impl AcceptedNumbers<'_> {
-    // How many dependences it has.
-    pub fn count(&self) -> usize
-        ensures { result ≡ count_of (nest_in self.now.numbers.now) }
-    {
+impl RunNest for AcceptedNumbers<'_> {
+    ghost nest_of = { λ s. nest_in s.numbers.now };
+
+    ghost accepted = { λ s. s.accepted };
+
+    fn iterations(&self) -> usize {
+        self.iterations
+    }
+
+    fn count(&self) -> usize {
         nest::to_size(self.numbers[1])
     }
 
-    // A copy of the nest.
-    pub fn nest(&self) -> AcceptedNest
-        ensures { (result.nest ≡ nest_in self.now.numbers.now)
-            × (result.iterations ≡ self.now.iterations) }
-    {
-        AcceptedNest {
-            nest: nest_in(self.numbers),
-            iterations: self.iterations,
-        }
-    }
-
-    // The rank of the source of iteration k along dependence i; none where the source is none of
-    // the iterations.
-    pub fn source(&self, k: usize, i: usize) -> Option<usize>
-        requires { (k < self.now.iterations) × (i < count_of (nest_in self.now.numbers.now)) }
-        ensures { option_in result ≡ source_rank (nest_in self.now.numbers.now) k i }
-    {
+    fn source(&self, k: usize, i: usize) -> Option<usize> {
         let nest = parts_in(self.numbers);
         let loops = nest.loops();
         let dependence = nest::dependence_at(nest.dependences, loops.lower.len(), i);
         loops.source_rank(dependence, k)
+    }
+
+    fn copied(&self) -> AcceptedNest {
+        AcceptedNest {
+            nest: nest_in(self.numbers),
+            iterations: self.iterations,
+        }
     }
 }

@@ -11,8 +11,8 @@ use Rattle.nest.specs.Refusals.{refusal}
 use Rattle.nest.specs.Sources.{source_rank}
 use Rattle.nest.proofs.Accepted.{depth_is, count_is}
 use Rattle.foreign.proofs.Lent.{dependence-whole, asked_limits, asked_sizes, answered}
-use Rattle.foreign.proofs.nests.AcceptedNumbers.source.Goals as goal
-use Rattle.foreign.proofs.nests.AcceptedNumbers.source.Goals.{After-parts_in-nest}
+use Rattle.foreign.proofs.nests.AcceptedNumbersRunNest.source.Goals as goal
+use Rattle.foreign.proofs.nests.AcceptedNumbersRunNest.source.Goals.{After-parts_in-nest}
 
 -- the nest that is lent is accepted, the iteration and the dependence are there
 ok : (c : After-parts_in-nest) → refusal (nest_of_parts c.parts_in-nest.result) ≡ 0

@@ -6,7 +6,7 @@ use Rattle.std.proofs.Common.{rules}
 use Rattle.integers.proofs.Machine.{reads}
 use Rattle.nest.specs.Nest.{to_ℕ}
 use Rattle.foreign.proofs.Lent.{count-lent}
-use Rattle.foreign.proofs.nests.AcceptedNumbers.count.Goals as goal
+use Rattle.foreign.proofs.nests.AcceptedNumbersRunNest.count.Goals as goal
 
 pub returns : goal.returns
 returns c =
