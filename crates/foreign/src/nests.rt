@@ -1,14 +1,14 @@
 // A nest as 63 numbers in a row, in the order of LoopNest's fields.
 ghost use Rattle.std.specs.Prelude.{◌≡◌, ◌+◌, ◌≤◌, ◌<◌, length, IfOk};
 ghost use Rattle.std.proofs.lemmas.List.Edits.{sets};
-ghost use Rattle.nest.specs.Nest.{count_of};
+ghost use Rattle.nest.specs.Nest.{count_of, part};
 ghost use Rattle.nest.specs.NestParts.{nest_of_parts};
 ghost use Rattle.nest.specs.Outcomes.{number_in};
 ghost use Rattle.nest.specs.Points.{points_of};
 ghost use Rattle.nest.specs.Refusals.{refusal};
 ghost use Rattle.nest.specs.Sources.{source_rank};
 ghost use Rattle.execution.specs.Inner.{option_in};
-ghost use Rattle.foreign.specs.Numbers.{nest_in, numbers_of};
+ghost use Rattle.foreign.specs.Numbers.{nest_in, numbers_of, number_count};
 
 use execution::RunNest;
 use nest::{AcceptedNest, LoopNest, NestParts, Refusal};
@@ -30,20 +30,30 @@ const WEIGHTS: usize = BOUNDARIES + LoopNest::MAX_DEPENDENCES;
 // How many numbers a nest has.
 pub const NUMBERS: usize = WEIGHTS + LoopNest::MAX_DEPENDENCES;
 
+// The numbers from place `at` on, as an array.
+fn part_at<const N: usize>(numbers: &[i64; NUMBERS], at: usize) -> [i64; N]
+    requires { at + N ≤ number_count }
+    ensures { result ≡ part numbers.now at N }
+{
+    <[i64; N]>::try_from(&numbers[at..at + N]).unwrap()
+}
+
 // The nest that 63 numbers are.
 // Kept: `From` cannot stand in this crate, where neither numbers nor `LoopNest` are its own.
 pub fn nest_in(numbers: &[i64; NUMBERS]) -> LoopNest
     ensures { result ≡ nest_in numbers.now }
 {
-    let mut s = LoopNest::empty().with_shape(numbers[0], numbers[1], numbers[2]);
-    s.lower.copy_from_slice(&numbers[LOWER..UPPER]);
-    s.upper.copy_from_slice(&numbers[UPPER..TIME]);
-    s.time.copy_from_slice(&numbers[TIME..DEPENDENCES]);
-    s.dependences
-        .copy_from_slice(&numbers[DEPENDENCES..BOUNDARIES]);
-    s.boundaries.copy_from_slice(&numbers[BOUNDARIES..WEIGHTS]);
-    s.weights.copy_from_slice(&numbers[WEIGHTS..NUMBERS]);
-    s
+    LoopNest {
+        depth: numbers[0],
+        count: numbers[1],
+        cube: numbers[2],
+        lower: part_at(numbers, LOWER),
+        upper: part_at(numbers, UPPER),
+        time: part_at(numbers, TIME),
+        dependences: part_at(numbers, DEPENDENCES),
+        boundaries: part_at(numbers, BOUNDARIES),
+        weights: part_at(numbers, WEIGHTS),
+    }
 }
 
 // Puts numbers over a part of others, from place `at` on.
