@@ -8,7 +8,7 @@ use mathlib.Core.Option.{Option, none, some}
 use Prim.Native.Nat.{ℕ, ◌+◌, ◌^◌, ◌≤◌, ◌<◌}
 use native.Mathlib.Omega.{arith}
 use borrow.Author.Tests.{eq-eqb, ne_eqb, lt-ltb}
-use lib.ListN.{length, get_or, set}
+use lib.ListN.{length, get_or, set, take}
 use Rattle.std.proofs.Common.{true≢false}
 use Rattle.integers.proofs.Lists.{and_true, split}
 use Rattle.nest.specs.declared.LoopNest.{LoopNest}
@@ -33,7 +33,7 @@ use Rattle.execution.specs.Entry.{layout_in, state_in, number_of, answer_of, Mak
 use Rattle.execution.specs.Inner.{view_in, Delivers, ready_from, Room}
 use Rattle.execution.proofs.Base.{eq?, every-same}
 use Rattle.execution.proofs.RuleLaws.{effect-number, Numbered, move-refused, move_rules, taking-none, taking-ready, taking-waits, delivering-ready, delivering-refused, compute-there, compute_nowhere, deliver-there, deliver_nowhere, message-some, not_ready}
-use Rattle.execution.proofs.FindingLaws.{taken_of}
+use Rattle.execution.proofs.FindingLaws.{taken_of, taken-below, taken-cut, there-cut, ready-cut}
 use lib.Dec.{eqb, ltb}
 use Rattle.nest.proofs.PointLaws.{source_iff}
 
@@ -90,41 +90,65 @@ module _ (s : LoopNest) (steps processors values done delivered : List ℕ) (n :
   pub no_processor : (c : ℕ) → c ≡ 2 ^ to_ℕ s.cube → c ≤ p → Computes (Refused 18) state
   no_processor c e h = by_effect s state (effect s view (compute p)) (refuse 18) (Refused 18) state (compute_nowhere s view p (omega arith)) (refused s state 18)
 
-  module _ (c : ℕ) (cube : c ≡ 2 ^ to_ℕ s.cube) (h : p < c) (o : Option ℕ) (e : o ≡ taken_of steps processors done p n) where
-    -- what it takes
-    takes : effect s view (compute p) ≡ taking s view p o
-    takes = compute-there s view p (omega arith) ∙ ap (taking s view p) (ap (taken_of steps processors done p) (sym count) ∙ sym e)
+  -- it is looked for in tables that are cut behind their last iteration
+  module _
+      (c : ℕ) (cube : c ≡ 2 ^ to_ℕ s.cube) (h : p < c) (long : n ≤ length processors) (o : Option ℕ)
+      (e : o ≡ taken_of steps (take n processors) (take n done) p (length (take n processors)))
+    where
+      -- what it takes
+      found : o ≡ taken_of steps processors done p n
+      found = e ∙ taken-cut steps processors done delivered n p long
 
-    -- the processor has no iteration left
-    pub idle : o ≡ none → Computes (Refused 17) state
-    idle q =
-        by_effect s state (effect s view (compute p)) (refuse 17) (Refused 17) state
-        (takes ∙ ap (taking s view p) q ∙ taking-none s view p) (refused s state 17)
+      takes : effect s view (compute p) ≡ taking s view p o
+      takes = compute-there s view p (omega arith) ∙ ap (taking s view p) (ap (taken_of steps processors done p) (sym count) ∙ sym found)
 
-    module _ (k : ℕ) (it : o ≡ some k) where
-      -- steps are no part of the test of sources
-      same-there : (i : ℕ) (j : Option ℕ) → there (view_in [] processors done delivered) p k i j ≡ there view p k i j
-      same-there i none = refl
-      same-there i (some j) = refl
+      -- the processor has no iteration left
+      pub idle : o ≡ none → Computes (Refused 17) state
+      idle q =
+          by_effect s state (effect s view (compute p)) (refuse 17) (Refused 17) state
+          (takes ∙ ap (taking s view p) q ∙ taking-none s view p) (refused s state 17)
 
-      module _ (b : Bool) (q : b ≡ every (λ i. there (view_in [] processors done delivered) p k i (source_rank s k i)) (count_of s)) where
-        -- so it comes out the same
-        all_same : every (λ i. there view p k i (source_rank s k i)) (count_of s) ≡ b
-        all_same = sym (q ∙ every-same (λ i. there (view_in [] processors done delivered) p k i (source_rank s k i)) (λ i. there view p k i (source_rank s k i)) (count_of s) (λ i l. same-there i (source_rank s k i)))
+      module _ (k : ℕ) (it : o ≡ some k) where
+        -- it is one
+        pub taken_one : k < n
+        taken_one = taken-below steps processors done p n k (sym found ∙ it)
 
-        -- a source is not there
-        pub waiting : b ≡ false → Computes (Refused 15) state
-        waiting f =
-            by_effect s state (effect s view (compute p)) (refuse 15) (Refused 15) state
-            (takes ∙ ap (taking s view p) it ∙ taking-waits s view p k (all_same ∙ f)) (refused s state 15)
+        -- a source, as it is looked for
+        abbrev pub cut_there : ℕ → Bool
+        cut_there i = there (view_in [] (take n processors) (take n done) (take n delivered)) p k i (source_rank s k i)
 
-        -- the iteration is computed
-        pub computes : (x : ℕ) → b ≡ true → x ≡ value_of (rule_of s) s values k → Computes (Computed (record { rank = k; value = x })) (state_in (set values k x) (set done k 1) delivered)
-        computes x t v =
-            by_effect s state (effect s view (compute p)) (iteration k) (Computed (record { rank = k; value = x })) (state_in (set values k x) (set done k 1) delivered)
-            (takes ∙ ap (taking s view p) it ∙ taking-ready s view p k (all_same ∙ t)) (computed s values done delivered k x v)
+        same-there : (i : ℕ) → cut_there i ≡ there view p k i (source_rank s k i)
+        same-there i = there-cut steps processors done delivered n p k i (source_rank s k i) taken_one (λ j q. omega (arith, ((source_iff s k i j).0 q).0))
+
+        module _ (b : Bool) (q : b ≡ every cut_there (count_of s)) where
+          -- so it comes out the same
+          all_same : every (λ i. there view p k i (source_rank s k i)) (count_of s) ≡ b
+          all_same = sym (q ∙ every-same cut_there (λ i. there view p k i (source_rank s k i)) (count_of s) (λ i l. same-there i))
+
+          -- a source is not there
+          pub waiting : b ≡ false → Computes (Refused 15) state
+          waiting f =
+              by_effect s state (effect s view (compute p)) (refuse 15) (Refused 15) state
+              (takes ∙ ap (taking s view p) it ∙ taking-waits s view p k (all_same ∙ f)) (refused s state 15)
+
+          -- the iteration is computed
+          pub computes : (x : ℕ) → b ≡ true → x ≡ value_of (rule_of s) s values k → Computes (Computed (record { rank = k; value = x })) (state_in (set values k x) (set done k 1) delivered)
+          computes x t v =
+              by_effect s state (effect s view (compute p)) (iteration k) (Computed (record { rank = k; value = x })) (state_in (set values k x) (set done k 1) delivered)
+              (takes ∙ ap (taking s view p) it ∙ taking-ready s view p k (all_same ∙ t)) (computed s values done delivered k x v)
 
 -- ---- the ways out of a delivery
+
+-- the bit of a message that can be delivered is 0
+bit_free : (o : Option ℕ) (n : ℕ) (processors done delivered : List ℕ) (k i : ℕ) → ready_from o n processors done delivered k i ≡ true → bit i (get_or delivered k 0) ≡ false
+bit_free none n processors done delivered k i t = absurd (true≢false (sym t))
+bit_free (some j) n processors done delivered k i t =
+    let crosses = not (eqb (get_or processors j 0) (get_or processors k 0)) in
+    let computed = not (eqb (get_or done j 0) 0) in
+    let free = not (bit i (get_or delivered k 0)) in
+    let h = (and_true computed free (and_true crosses (computed && free) (and_true (ltb j n) (crosses && (computed && free)) t).1).1).1 in
+    split (bit i (get_or delivered k 0)) (λ y. absurd (true≢false (sym h ∙ ap not y))) (λ f. f)
+
 module _ (s : LoopNest) (processors done delivered : List ℕ) (n : ℕ) (count : n ≡ length (points_of s)) (k i : ℕ) where
   -- what the move comes to
   abbrev Comes : Answer → List ℕ → Type 0
@@ -162,34 +186,34 @@ module _ (s : LoopNest) (processors done delivered : List ℕ) (n : ℕ) (count 
       ap (λ b. b && (not (eqb (get_or processors j 0) (get_or processors k 0)) && (not (eqb (get_or done j 0) 0) && not (bit i (get_or delivered k 0))))) (lt-ltb j n (omega (arith, ((source_iff s k i j).0 (sym e)).0)))
       ∙ sym (ap₂ (λ (a b : Bool). a && (b && not (bit i (get_or delivered k 0)))) (message-some s processors k i j (sym e)) (ap (source_done (view_in [] processors done delivered)) (sym e)))
 
-  module _ (o : Option ℕ) (source : o ≡ source_rank s k i) (hk : k < n) (hi : i < count_of s) (b : Bool) (q : b ≡ ready_from o n processors done delivered k i) where
-    -- whatever the steps
-    readiness : (steps : List ℕ) → ready s (view_in steps processors done delivered) k i ≡ b
-    readiness steps = same-ready steps b (q ∙ ready-from o source)
+  module _ (o : Option ℕ) (source : o ≡ source_rank s k i) (hk : k < n) (hi : i < count_of s) (long : n ≤ length processors) (b : Bool)
+      (q : b ≡ ready_from o (length (take n processors)) (take n processors) (take n done) (take n delivered) k i)
+    where
+      -- tables that are cut behind their last iteration are looked at alike
+      whole : b ≡ ready_from o n processors done delivered k i
+      whole = q ∙ ready-cut processors done delivered n o k i long hk (λ j e. omega (arith, ((source_iff s k i j).0 (sym source ∙ e)).0))
 
-    -- the message cannot be delivered
-    pub out_of_turn : b ≡ false → Comes (Refused 16) delivered
-    out_of_turn f =
-        delivery_by (refuse 16) (Refused 16) delivered
-        (λ steps. let v = view_in steps processors done delivered in deliver-there s v k i (omega arith) hi ∙ delivering-refused s v k i (readiness steps ∙ f))
-        (λ values. refused s (state_in values done delivered) 16)
+      -- whatever the steps
+      readiness : (steps : List ℕ) → ready s (view_in steps processors done delivered) k i ≡ b
+      readiness steps = same-ready steps b (whole ∙ ready-from o source)
 
-    -- it is delivered
-    pub delivery : (x : ℕ) → b ≡ true → x ≡ get_or delivered k 0 + 2 ^ i → Comes (Delivered (record { rank = k; dependence = i })) (set delivered k x)
-    delivery x t e =
-        delivery_by (message k i) (Delivered (record { rank = k; dependence = i })) (set delivered k x)
-        (λ steps. let v = view_in steps processors done delivered in deliver-there s v k i (omega arith) hi ∙ delivering-ready s v k i (readiness steps ∙ t))
-        (λ values. delivers s values done delivered k i x e)
+      -- the message cannot be delivered
+      pub out_of_turn : b ≡ false → Comes (Refused 16) delivered
+      out_of_turn f =
+          delivery_by (refuse 16) (Refused 16) delivered
+          (λ steps. let v = view_in steps processors done delivered in deliver-there s v k i (omega arith) hi ∙ delivering-refused s v k i (readiness steps ∙ f))
+          (λ values. refused s (state_in values done delivered) 16)
 
--- the bit of a message that can be delivered is 0
-pub bit_free : (o : Option ℕ) (n : ℕ) (processors done delivered : List ℕ) (k i : ℕ) → ready_from o n processors done delivered k i ≡ true → bit i (get_or delivered k 0) ≡ false
-bit_free none n processors done delivered k i t = absurd (true≢false (sym t))
-bit_free (some j) n processors done delivered k i t =
-    let crosses = not (eqb (get_or processors j 0) (get_or processors k 0)) in
-    let computed = not (eqb (get_or done j 0) 0) in
-    let free = not (bit i (get_or delivered k 0)) in
-    let h = (and_true computed free (and_true crosses (computed && free) (and_true (ltb j n) (crosses && (computed && free)) t).1).1).1 in
-    split (bit i (get_or delivered k 0)) (λ y. absurd (true≢false (sym h ∙ ap not y))) (λ f. f)
+      -- it is delivered
+      pub delivery : (x : ℕ) → b ≡ true → x ≡ get_or delivered k 0 + 2 ^ i → Comes (Delivered (record { rank = k; dependence = i })) (set delivered k x)
+      delivery x t e =
+          delivery_by (message k i) (Delivered (record { rank = k; dependence = i })) (set delivered k x)
+          (λ steps. let v = view_in steps processors done delivered in deliver-there s v k i (omega arith) hi ∙ delivering-ready s v k i (readiness steps ∙ t))
+          (λ values. delivers s values done delivered k i x e)
+
+      -- its bit is 0
+      pub free : b ≡ true → bit i (get_or delivered k 0) ≡ false
+      free t = bit_free o n processors done delivered k i (sym whole ∙ t)
 
 -- ---- the ways out of the entry
 

@@ -8,13 +8,15 @@ use mathlib.Core.Option.{Option, none, some}
 use Prim.Native.Nat.{ℕ, ◌+◌, ◌≤◌, ◌<◌}
 use native.Mathlib.Omega.{arith}
 use borrow.Author.Tests.{eq-eqb, ne_eqb}
+use lib.Dec.{eqb}
 use lib.ListN.{length, get_or, take}
 use lib.Seq.{get_or-take, length-take-le}
 use Rattle.integers.proofs.Lists.{and_false}
-use Rattle.execution.specs.Rules.{every, better, least, View, step_in, waits}
-use Rattle.execution.specs.Inner.{view_in, option_in}
+use Rattle.execution.specs.Rules.{every, better, least, View, step_in, waits, there}
+use Rattle.execution.specs.Run.{bit}
+use Rattle.execution.specs.Inner.{view_in, option_in, ready_from}
 use Rattle.std.specs.Prelude.{Option as Found, Some, None, IfSome}
-use Rattle.execution.proofs.Base.{every_refute, least-some}
+use Rattle.execution.proofs.Base.{every_refute, least-some, least-same}
 use Rattle.execution.proofs.BitLaws.{every_more, least_start, least_more}
 
 -- ---- the iteration that a processor takes
@@ -59,13 +61,30 @@ module _ (steps processors done : List ℕ) (p : ℕ) where
         let w : waits seen p k ≡ true = rw (eq-eqb (get_or done k 0) 0 h, eq-eqb (get_or processors k 0) p g) refl in
         sym (least_more (waits seen p) (step_in seen) k ∙ ap (λ b. better (step_in seen) k b (taken_of k)) w)
 
--- the first n of a longer table
-module _ (xs : List ℕ) (n k : ℕ) (long : n ≤ length xs) (h : k < length (take n xs)) where
-  pub front-below : k < n
-  front-below = omega (arith, length-take-le n xs long)
+-- ---- tables cut behind the last of n iterations
+module _ (steps processors done delivered : List ℕ) (n : ℕ) where
+  -- what is taken is the same
+  pub taken-cut : (p : ℕ) → n ≤ length processors → taken_of steps (take n processors) (take n done) p (length (take n processors)) ≡ taken_of steps processors done p n
+  taken-cut p long =
+      ap (taken_of steps (take n processors) (take n done) p) (length-take-le n processors long)
+      ∙ least-same n (waits (seen steps (take n processors) (take n done) p) p) (waits (seen steps processors done p) p) (step_in (seen steps processors done p)) (step_in (seen steps processors done p))
+      (λ k l. ap₂ (λ (x y : ℕ). not (not (eqb x 0)) && eqb y p) (get_or-take n done k 0 l) (get_or-take n processors k 0 l)) (λ j k hj hk. (λ h. h, λ h. h))
 
-  pub front-at : get_or (take n xs) k 0 ≡ get_or xs k 0
-  front-at = get_or-take n xs k 0 front-below
+  -- and so is the test of a source
+  pub there-cut : (p k i : ℕ) (o : Option ℕ) → k < n → ((j : ℕ) → o ≡ some j → j < n) → there (view_in [] (take n processors) (take n done) (take n delivered)) p k i o ≡ there (view_in steps processors done delivered) p k i o
+  there-cut p k i none hk h = refl
+  there-cut p k i (some j) hk h =
+      let l = h j refl in
+      λ t. elim (eqb (get_or-take n processors j 0 l t) p) [ true ↦ not (eqb (get_or-take n done j 0 l t) 0) | false ↦ bit i (get_or-take n delivered k 0 hk t) ]
+
+-- and of a message
+module _ (processors done delivered : List ℕ) (n : ℕ) where
+  pub ready-cut : (o : Option ℕ) (k i : ℕ) → n ≤ length processors → k < n → ((j : ℕ) → o ≡ some j → j < n)
+      → ready_from o (length (take n processors)) (take n processors) (take n done) (take n delivered) k i ≡ ready_from o n processors done delivered k i
+  ready-cut none k i long hk h = refl
+  ready-cut (some j) k i long hk h =
+      let l = h j refl in
+      rw (length-take-le n processors long, get_or-take n processors j 0 l, get_or-take n processors k 0 hk, get_or-take n done j 0 l, get_or-take n delivered k 0 hk) refl
 
 -- ---- the test of all sources
 

@@ -39,30 +39,30 @@ fn better_of(steps: &[u32], best: Option<usize>, k: usize) -> Option<usize>
     }
 }
 
-// What a move looks at besides the steps: of each of so many iterations its processor, whether it
-// is done, and which of its messages are delivered.
+// What a move looks at besides the steps: of each iteration its processor, whether it is done, and
+// which of its messages are delivered.
 #[derive(Clone, Copy)]
 pub struct Seen<'a> {
-    // Kept: `make_move` takes buffers that are longer, and promises of them whole (`Makes`).
-    pub iterations: usize,
     pub processors: &'a [u8],
     pub done: &'a [u8],
     pub delivered: &'a [u8],
-    ghost room: { (iterations ≤ length processors.now) × (iterations ≤ length done.now)
-        × (iterations ≤ length delivered.now) },
+    ghost lengths: { (length done.now ≡ length processors.now)
+        × (length delivered.now ≡ length processors.now) },
 }
 
 impl Seen<'_> {
     // The iteration that processor p takes: the one that is not done, least in step, then in rank.
     pub fn next_iteration(&self, steps: &[u32], p: u8) -> Option<usize>
-        requires { self.now.iterations ≤ length steps.now }
+        requires { length self.now.processors.now ≤ length steps.now }
         ensures { option_in result ≡ least
             (waits (view_in steps.now self.now.processors.now self.now.done.now []) p)
             (step_in (view_in steps.now self.now.processors.now self.now.done.now []))
-            self.now.iterations }
+            (length self.now.processors.now) }
     {
         let mut best = None;
-        for (k, processor) in self.processors[..self.iterations].iter().enumerate() {
+        // Kept: k is what is answered and what `steps` is asked for, so `done` is read by it too; a
+        // `zip` in front of `enumerate` is no plainer.
+        for (k, processor) in self.processors.iter().enumerate() {
             if *processor == p && self.done[k] == 0 {
                 best = better_of(steps, best, k);
             }
@@ -73,8 +73,8 @@ impl Seen<'_> {
     // Whether the source of iteration k along dependence i is there for processor p: done if on p,
     // its message delivered otherwise; one that is no iteration always is.
     fn is_there(&self, source: Option<usize>, p: u8, k: usize, i: usize) -> bool
-        requires source { IfSome source (λ j. j < self.now.iterations) }
-        requires place { (k < self.now.iterations) × (i < max_dependences) }
+        requires source { IfSome source (λ j. j < length self.now.processors.now) }
+        requires place { (k < length self.now.processors.now) × (i < max_dependences) }
         ensures { result ≡ there
             (view_in [] self.now.processors.now self.now.done.now self.now.delivered.now) p k i
             (option_in source) }
@@ -90,7 +90,7 @@ impl Seen<'_> {
 
     // Whether all sources of iteration k are there for processor p.
     pub fn all_there(&self, s: &AcceptedNest, p: u8, k: usize) -> bool
-        requires { (self.now.iterations ≡ s.now.iterations) × (k < self.now.iterations) }
+        requires { (length self.now.processors.now ≡ s.now.iterations) × (k < s.now.iterations) }
         ensures { result ≡ every
             (λ i. there (view_in [] self.now.processors.now self.now.done.now self.now.delivered.now)
             p k i (source_rank s.now.nest k i)) (count_of s.now.nest) }
@@ -107,15 +107,16 @@ impl Seen<'_> {
     // Whether a message, of which the source is known, can be delivered: it is one, its source is
     // done, and its bit is 0.
     pub fn is_ready(&self, source: Option<usize>, message: Delivery) -> bool
-        requires { (message.rank < self.now.iterations) × (message.dependence < max_dependences) }
-        ensures { result ≡ ready_from (option_in source) self.now.iterations
+        requires { (message.rank < length self.now.processors.now)
+            × (message.dependence < max_dependences) }
+        ensures { result ≡ ready_from (option_in source) (length self.now.processors.now)
             self.now.processors.now self.now.done.now self.now.delivered.now
             message.rank message.dependence }
     {
         let Some(j) = source else {
             return false;
         };
-        j < self.iterations
+        j < self.processors.len()
             && self.processors[j] != self.processors[message.rank]
             && self.done[j] != 0
             && !bit_set(self.delivered[message.rank], message.dependence)

@@ -67,7 +67,7 @@ pub struct PlanTables<'a> {
 pub struct RunState<'a> {
     pub values: &'a mut [u16],
     pub done: &'a mut [u8],
-    pub delivered: &'a mut [u8],
+    pub delivered: &'a [u8],
 }
 
 // How many processors there are: 2^c, at most 64.
@@ -85,7 +85,7 @@ fn compute(s: &AcceptedNest, p: usize, tables: PlanTables, state: RunState) -> R
         (state_lent state.entry) (compute p) (answer_in result) }
     ensures leaves { Leaves s.now.nest (tables_layout tables.entry)
         (state_lent state.entry) (compute p)
-        (state_in state.exit.0.now state.exit.1.0.now state.exit.1.1.0.now) }
+        (state_in state.exit.0.now state.exit.1.0.now state.entry.delivered.now) }
 {
     if processors_in(s) <= p {
         return Err(Refusal::NoSuchPlace);
@@ -96,11 +96,11 @@ fn compute(s: &AcceptedNest, p: usize, tables: PlanTables, state: RunState) -> R
         done,
         delivered,
     } = state;
+    let n = s.iterations;
     let seen = Seen {
-        iterations: s.iterations,
-        processors: tables.processors,
-        done,
-        delivered,
+        processors: &tables.processors[..n],
+        done: &done[..n],
+        delivered: &delivered[..n],
     };
     let Some(k) = seen.next_iteration(tables.steps, processor) else {
         return Err(Refusal::IdleProcessor);
@@ -131,15 +131,14 @@ fn deliver<N: RunNest>(
 {
     let k = message.rank;
     let i = message.dependence;
-    let iterations = s.iterations();
-    if iterations <= k || s.count() <= i {
+    let n = s.iterations();
+    if n <= k || s.count() <= i {
         return Err(Refusal::NoSuchPlace);
     }
     let seen = Seen {
-        iterations,
-        processors,
-        done,
-        delivered,
+        processors: &processors[..n],
+        done: &done[..n],
+        delivered: &delivered[..n],
     };
     if !seen.is_ready(s.source(k, i), message) {
         return Err(Refusal::OutOfTurn);

@@ -1,9 +1,10 @@
 -- `compute` meets its contract: a law of `EntryLaws` for each way out. Assumes nothing.
-use mathlib.Core.Path.{refl, sym}
+use mathlib.Core.Path.{refl, sym, ◌∙◌}
 use mathlib.Core.Option.{none, some}
 use Prim.Native.Nat.{◌<◌}
 use native.Mathlib.Omega.{arith}
-use Rattle.execution.proofs.FindingLaws.{taken-below}
+use lib.Seq.{length-take-le}
+use Rattle.execution.proofs.FindingLaws.{taken-below, taken-cut}
 use Rattle.execution.proofs.EntryLaws.{no_processor, idle, waiting, computes}
 use Rattle.execution.proofs.compute.Goals as goal
 use Rattle.execution.proofs.compute.Goals.{In-Some}
@@ -12,7 +13,9 @@ use Rattle.execution.proofs.compute.Goals.{In-Some}
 below : (c : In-Some) → c.in-Some.k < c.args.s.now.iterations
 below c =
     let a = c.args in
-    taken-below a.tables.steps.now a.tables.processors.now a.state.done.now a.p a.s.now.iterations c.in-Some.k (sym c.in-Some.ensures)
+    let t = a.tables in
+    let n = a.s.now.iterations in
+    taken-below t.steps.now t.processors.now a.state.done.now a.p n c.in-Some.k (sym (c.in-Some.ensures ∙ taken-cut t.steps.now t.processors.now a.state.done.now a.state.delivered.now n a.p c.requires.room.1))
 
 pub returns-then-processors_in-p : goal.returns-then-processors_in-p
 returns-then-processors_in-p c =
@@ -29,11 +32,11 @@ returns-in_default c =
     let s = a.s.now in
     let t = a.tables in
     let st = a.state in
-    let both = idle s.nest t.steps.now t.processors.now st.values.now st.done.now st.delivered.now s.iterations s.counted a.p c.processors_in.result c.processors_in.ensures.0 c.if-processors_in-p.false none c.in_default.ensures refl in
+    let both = idle s.nest t.steps.now t.processors.now st.values.now st.done.now st.delivered.now s.iterations s.counted a.p c.processors_in.result c.processors_in.ensures.0 c.if-processors_in-p.false c.requires.room.1 none c.in_default.ensures refl in
     record { answers = both.0; leaves = both.1 }
 
 pub all_there-requires : goal.all_there-requires
-all_there-requires c = (refl, below (goal.at.all_there-requires c).In-Some)
+all_there-requires c = (length-take-le c.args.s.now.iterations c.args.tables.processors.now c.requires.room.1, below (goal.at.all_there-requires c).In-Some)
 
 pub value_at-value-requires : goal.value_at-value-requires
 value_at-value-requires c = (below (goal.at.value_at-value-requires c).In-Some, c.requires.room.2)
@@ -54,7 +57,7 @@ returns-then-not-all_there c =
     let t = a.tables in
     let st = a.state in
     let k = c.in-Some.k in
-    let both = waiting s.nest t.steps.now t.processors.now st.values.now st.done.now st.delivered.now s.iterations s.counted a.p c.processors_in.result c.processors_in.ensures.0 c.if-processors_in-p.false (some k) c.in-Some.ensures k refl c.all_there.result c.all_there.ensures c.if-not-all_there.true in
+    let both = waiting s.nest t.steps.now t.processors.now st.values.now st.done.now st.delivered.now s.iterations s.counted a.p c.processors_in.result c.processors_in.ensures.0 c.if-processors_in-p.false c.requires.room.1 (some k) c.in-Some.ensures k refl c.all_there.result c.all_there.ensures c.if-not-all_there.true in
     record { answers = both.0; leaves = both.1 }
 
 pub returns : goal.returns
@@ -64,5 +67,5 @@ returns c =
     let t = a.tables in
     let st = a.state in
     let k = c.in-Some.k in
-    let both = computes s.nest t.steps.now t.processors.now st.values.now st.done.now st.delivered.now s.iterations s.counted a.p c.processors_in.result c.processors_in.ensures.0 c.if-processors_in-p.false (some k) c.in-Some.ensures k refl c.all_there.result c.all_there.ensures c.value_at-value.result c.if-not-all_there.false c.value_at-value.ensures in
+    let both = computes s.nest t.steps.now t.processors.now st.values.now st.done.now st.delivered.now s.iterations s.counted a.p c.processors_in.result c.processors_in.ensures.0 c.if-processors_in-p.false c.requires.room.1 (some k) c.in-Some.ensures k refl c.all_there.result c.all_there.ensures c.value_at-value.result c.if-not-all_there.false c.value_at-value.ensures in
     record { answers = both.0; leaves = both.1 }

@@ -41,7 +41,7 @@ returns-in-Compute g c =
     let s = a.s.now in
     let f = c.compute in
     made_move (g.N.RunNest.nest_of s) a.steps.now a.processors.now a.values.now a.done.now a.delivered.now (move_of a.what) (g.met.N.RunNest.accepted s) c.iterations.result c.iterations.ensures c.in_ok-check_room.ensures
-    c.copied.result.nest c.copied.ensures (compute c.in-Compute.p) (ap move_of c.in-Compute.is) (answer_in f.result) (state_in f.new.state.0 f.new.state.1.0 f.new.state.1.1.0)
+    c.copied.result.nest c.copied.ensures (compute c.in-Compute.p) (ap move_of c.in-Compute.is) (answer_in f.result) (state_in f.new.state.0 f.new.state.1.0 a.delivered.now)
     (f.ensures.answers, f.ensures.leaves)
 
 pub returns-in-Deliver : goal.returns-in-Deliver

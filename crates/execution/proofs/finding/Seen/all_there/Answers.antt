@@ -47,7 +47,7 @@ is_there-requires c =
     let n = s.counted in
     record {
       source = subst (λ m. IfSome c.source_at.result (λ j. j < m)) (sym (c.requires.0 ∙ n)) (source_below s.nest c.args.k c.loop-i.i c.point_of-point.result (one (goal.at.is_there-requires c).Start) c.point_of-point.ensures c.source_at.result c.source_at.ensures);
-      place = (c.requires.1, omega (arith, (count_is s.nest s.accepted).1));
+      place = (omega (arith, c.requires.0, c.requires.1), omega (arith, (count_is s.nest s.accepted).1));
     }
 
 -- so the test is that of the source

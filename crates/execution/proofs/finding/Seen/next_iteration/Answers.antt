@@ -1,12 +1,12 @@
 -- `next_iteration` meets its contract. Assumes nothing.
-use mathlib.Core.Path.{sym, ap, ◌∙◌}
+use mathlib.Core.Path.{ap, ◌∙◌}
 use mathlib.Core.Bool.{true}
 use Prim.Native.Nat.{ℕ}
 use native.Mathlib.Omega.{arith}
 use lib.ListN.{get_or}
 use Rattle.execution.specs.Inner.{option_in}
 use Rattle.execution.specs.Rules.{better}
-use Rattle.execution.proofs.FindingLaws.{front-below, front-at, taken-none, taken_within, taken-elsewhere, taken-done, taken-waiting}
+use Rattle.execution.proofs.FindingLaws.{taken-none, taken_within, taken-elsewhere, taken-done, taken-waiting}
 use Rattle.execution.proofs.finding.Seen.next_iteration.Goals as goal
 use Rattle.execution.proofs.finding.Seen.next_iteration.Goals.{then-processor-p+then-self-k-eq0, else-processor-p, else-processor-p-via-then-processor-p+else-self-k-eq0, else-processor-p-via-else-processor-p}
 
@@ -18,7 +18,6 @@ better_of-best-requires-clause-best_in_bounds c =
     let a = c.args in
     let s = a.self.now in
     let k = c.loop-k.k in
-    let h = front-below s.processors.now s.iterations k s.room.0 c.loop-k-test.true in
     taken_within a.steps.now s.processors.now s.done.now a.p k c.loop-k.best c.loop-k.invariant (omega arith)
 
 pub loop-k-preserved : goal.loop-k-preserved
@@ -28,15 +27,14 @@ loop-k-preserved c =
     let ps = s.processors.now in
     let k = c.loop-k.k in
     let key : ℕ → ℕ = λ i. get_or a.steps.now i 0 in
-    let at = front-at ps s.iterations k s.room.0 c.loop-k-test.true in
     elim c.if-processor-p.branch [
       | then-processor-p+then-self-k-eq0 w ↦
           ap option_in w.best-is ∙ w.better_of-best.ensures ∙ ap (better key k true) c.loop-k.invariant
-          ∙ taken-waiting a.steps.now ps s.done.now a.p k (sym at ∙ w.if-processor-p.true) w.if-self-k-eq0.true
+          ∙ taken-waiting a.steps.now ps s.done.now a.p k w.if-processor-p.true w.if-self-k-eq0.true
       | else-processor-p w ↦ elim w.else-processor-p.branch [
         | else-processor-p-via-then-processor-p+else-self-k-eq0 w' ↦
             ap option_in w.best-is ∙ c.loop-k.invariant ∙ taken-done a.steps.now ps s.done.now a.p k w'.if-self-k-eq0.false
         | else-processor-p-via-else-processor-p w' ↦
-            ap option_in w.best-is ∙ c.loop-k.invariant ∙ taken-elsewhere a.steps.now ps s.done.now a.p k (λ e. w'.if-processor-p.false (at ∙ e))
+            ap option_in w.best-is ∙ c.loop-k.invariant ∙ taken-elsewhere a.steps.now ps s.done.now a.p k w'.if-processor-p.false
       ]
     ]
