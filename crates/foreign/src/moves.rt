@@ -17,6 +17,7 @@ pub const COMPUTE: usize = 1;
 pub const DELIVER: usize = 2;
 
 // A processor that no machine has: the number behind the last of the largest hypercube.
+// Kept: the C interface may ask for any kind; `move_in` answers a move all the same, and cannot fail.
 const NO_PROCESSOR: usize = 1 << LoopNest::MAX_CUBE;
 
 // The move that numbers ask for: a kind that is neither asks for a compute on a processor that is
@@ -36,6 +37,7 @@ pub fn move_in(kind: usize, first: usize, second: usize) -> Move
 }
 
 // The number of an answer: 0 for a call that is done, or the number of its refusal.
+// Kept: C has no Result, and `From` cannot stand in this crate, where the answer is not its own.
 pub fn number_of<T>(answer: &Result<T, Refusal>) -> u8
     ensures { result ≡ number_in answer.now }
 {

@@ -57,6 +57,8 @@ pub fn nest_in(numbers: &[i64; NUMBERS]) -> LoopNest
 }
 
 // Puts numbers over a part of others, from place `at` on.
+// Kept: tried in `numbers_of` itself, seven copies into ranges of one array: each asks for the
+// length that the ones before it left, so the code is as long and its proof longer.
 fn put(out: &mut [i64], at: usize, numbers: &[i64])
     requires { at + length numbers.now ≤ length out.old }
     ensures { out.new ≡ sets out.old at numbers.now }
@@ -107,6 +109,7 @@ pub struct AcceptedNumbers<'a> {
 }
 
 // `accept` of the nest that 63 numbers are.
+// Kept: the C interface gives a nest as 63 numbers, and a delivery through it copies none of them.
 pub fn accept_in<'a>(numbers: &'a [i64; NUMBERS]) -> Result<AcceptedNumbers<'a>, Refusal>
     ensures number { number_in result ≡ refusal (nest_in numbers.now) }
     ensures same_numbers { IfOk result (λ accepted. accepted.numbers.now ≡ numbers.now) }
