@@ -96,6 +96,7 @@ impl Seen<'_> {
             p k i (source_rank s.now.nest k i)) (count_of s.now.nest) }
     {
         let point = s.point_of(k);
+        // Kept: i is the number of a dependence, by which its source and its bit are asked for.
         for i in 0..s.count() {
             if !self.is_there(s.source_at(point, i), p, k, i) {
                 return false;

@@ -79,7 +79,7 @@ fn processors_in(s: &AcceptedNest) -> usize
 
 // A compute on processor p, of an accepted nest: the iteration that it takes gets its value and its
 // done byte, if its sources are there.
-fn compute(s: &AcceptedNest, p: usize, tables: PlanTables, state: RunState) -> Result<Done, Refusal>
+pub fn compute(s: &AcceptedNest, p: usize, tables: PlanTables, state: RunState) -> Result<Done, Refusal>
     requires room { Room s.now.iterations (tables_layout tables) (state_lent state) }
     ensures answers { Answers s.now.nest (tables_layout tables.entry)
         (state_lent state.entry) (compute p) (answer_in result) }
