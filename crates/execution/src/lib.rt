@@ -79,7 +79,12 @@ fn processors_in(s: &AcceptedNest) -> usize
 
 // A compute on processor p, of an accepted nest: the iteration that it takes gets its value and its
 // done byte, if its sources are there.
-pub fn compute(s: &AcceptedNest, p: usize, tables: PlanTables, state: RunState) -> Result<Done, Refusal>
+pub fn compute(
+    s: &AcceptedNest,
+    p: usize,
+    tables: PlanTables,
+    state: RunState,
+) -> Result<Done, Refusal>
     requires room { Room s.now.iterations (tables_layout tables) (state_lent state) }
     ensures answers { Answers s.now.nest (tables_layout tables.entry)
         (state_lent state.entry) (compute p) (answer_in result) }
@@ -150,6 +155,7 @@ fn deliver<N: RunNest>(
 // Makes a move of an accepted nest, on the step and processor tables of a plan and on the state's
 // three buffers, all of any content. Answers what the move did, or its refusal, 14, then 18, 17, 15
 // or 16, with no buffer changed.
+// Kept: five buffers, as document 01 and the C interface lend them to a move.
 pub fn make_accepted_move<N: RunNest>(
     s: &N,
     what: Move,

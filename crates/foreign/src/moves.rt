@@ -17,7 +17,8 @@ pub const COMPUTE: usize = 1;
 pub const DELIVER: usize = 2;
 
 // A processor that no machine has: the number behind the last of the largest hypercube.
-// Kept: the C interface may ask for any kind; `move_in` answers a move all the same, and cannot fail.
+// Kept: the C interface may ask for any kind; `move_in` answers a move all the same, and cannot
+// fail.
 const NO_PROCESSOR: usize = 1 << LoopNest::MAX_CUBE;
 
 // The move that numbers ask for: a kind that is neither asks for a compute on a processor that is

@@ -18,6 +18,7 @@ fn processor_of(directions: &[Direction; LoopNest::MAX_DEPTH], row: &Row) -> u8
     ensures { result ≡ joined 0 (held directions.now) (values_of row.now) }
 {
     let mut p = 0u64;
+    // Kept: a column by index, since it is told by the number of its direction (`column_of`).
     for (j, direction) in directions.iter().enumerate() {
         p = (p << direction.bits) + direction.code_of(row[column_of(j)]);
     }
@@ -67,6 +68,8 @@ fn place_iterations(owners: &[u8], blocks: &[u16], processors: &mut [u8])
 }
 
 // The processors of the iterations, whose blocks are given, in a hypercube of dimension c.
+// Kept: c is a plain number of the nest, handed on to `deal`, where a type for it would be
+// unwrapped.
 pub fn processors_into(groups: &BlockGroups, c: usize, blocks: &[u16], processors: &mut [u8])
     requires limits { (length groups.now.rows.now ≤ max_iterations) × (c ≤ max_cube) }
     requires blocks { (length blocks.now ≤ length processors.old)

@@ -43,8 +43,8 @@ impl Loops<'_> {
     {
         let mut point = [0i64; LoopNest::MAX_DEPTH];
         let mut rest = rank as u64;
-        // Kept: k goes down through three arrays. Of a `rev` behind a `zip` a proof learns nothing, and one
-        // on each array in front of it is no plainer.
+        // Kept: k goes down through three arrays. Of a `rev` behind a `zip` a proof learns nothing,
+        // and one on each array in front of it is no plainer.
         for k in (1..self.lower.len()).rev() {
             let extent = extent_of(self.lower[k], self.upper[k]);
             point[k] = index_at(self.lower[k], rest % extent);

@@ -78,6 +78,8 @@ pub fn check_header(depth: i64, count: i64, cube: i64) -> Result<(), Refusal>
 }
 
 // The refusals 5 and 6, of n loops: the first.
+// Kept: n and m stand beside the arrays here and below, since an array has places that are no part
+// of the nest; `Loops` and `Dependences` are cut from them.
 fn check_limits(lower: &[i64], upper: &[i64], n: usize) -> Result<(), Refusal>
     requires { (n ≤ max_depth) × (n ≤ length lower.now) × (n ≤ length upper.now) }
     ensures { number_in result ≡ first_met

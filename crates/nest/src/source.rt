@@ -1,6 +1,7 @@
 // The source of an iteration along a dependence: the point, and its rank.
 ghost use Rattle.std.specs.Prelude.{◌≡◌, ℕ, ◌+◌, ◌*◌, ◌<◌, ◌≤◌, pos, nat_abs, [], length, get_or};
-ghost use Rattle.nest.specs.Nest.{padded, limits_in, dependence_at, max_depth, max_limit, max_iterations, max_component};
+ghost use Rattle.nest.specs.Nest.{padded, limits_in, dependence_at, max_depth, max_limit};
+ghost use Rattle.nest.specs.Nest.{max_iterations, max_component};
 ghost use Rattle.nest.specs.Points.{points, point_count, place_of, source};
 
 use crate::faults::is_outside;
@@ -8,6 +9,7 @@ use crate::points::{distance, extent_of, index_at};
 use crate::{LoopNest, Loops};
 
 // The components of dependence i, of n components, in the array of the dependences.
+// Kept: the field of a `LoopNest` is one array, as the C interface lends it, and is cut by places.
 pub fn dependence_at(dependences: &[i64], n: usize, i: usize) -> &[i64]
     requires { i * max_depth + n ≤ length dependences.now }
     ensures { result.now ≡ dependence_at dependences.now n i }
@@ -25,6 +27,7 @@ pub fn difference(point: &[i64], dependence: &[i64]) -> [i64; LoopNest::MAX_DEPT
     ensures { result ≡ padded max_depth (source point.now dependence.now) }
 {
     let mut source = [0i64; LoopNest::MAX_DEPTH];
+    // Kept: entries by index, since of what is written through a zip a proof learns nothing.
     for (k, (index, component)) in point.iter().zip(dependence).enumerate() {
         source[k] = index - component;
     }
@@ -49,8 +52,8 @@ impl Loops<'_> {
         let mut rest = iteration as u64;
         let mut stride: u64 = 1;
         let mut at: u64 = 0;
-        // Kept: k goes down through three arrays. Of a `rev` behind a `zip` a proof learns nothing, and one
-        // on each array in front of it is no plainer.
+        // Kept: k goes down through three arrays. Of a `rev` behind a `zip` a proof learns nothing,
+        // and one on each array in front of it is no plainer.
         for k in (0..self.lower.len()).rev() {
             let low = self.lower[k];
             let high = self.upper[k];

@@ -43,6 +43,8 @@ pub fn well_led(d: &[u8]) -> bool
 }
 
 // The number that a run of digits says.
+// Kept: the most bytes are a clause of three functions, each of which is given a part of the field
+// of the one before it; a type for six bytes would be made again for each part.
 pub fn digits(d: &[u8]) -> Option<u32>
     requires { length d.now ≤ columns }
     ensures { result ≡ digits_of d.now }
@@ -120,6 +122,7 @@ pub fn write_field(out: &mut [u8], z: i64)
 }
 
 // Writes a number as the field at column `from` of a line.
+// Kept: it takes a place in a buffer, as `put_line` does.
 pub fn write_at(line: &mut [u8], from: usize, z: i64)
     requires { (from + columns ≤ length line.old) × InColumns z }
     ensures { line.new

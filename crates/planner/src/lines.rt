@@ -15,6 +15,8 @@ pub const NUMBERS: usize = 5;
 pub const LINE: usize = nest_text::COLUMNS * NUMBERS + 1;
 
 // Writes a line of numbers that six columns hold.
+// Kept: buffer and place are taken and a place is answered, here and below, as by
+// `nest_text::put_line`.
 pub fn put_counts(out: &mut [u8], at: usize, counts: [usize; NUMBERS]) -> usize
     requires { (at + row_bytes ≤ length out.old) × ((i : ℕ) → i < row_width → get_or counts i 0 < seven_digits) }
     ensures { Stored out.old at (line (map pos counts)) out.new result }

@@ -44,6 +44,7 @@ pub fn key_of(components: &[i64]) -> i64
 }
 
 // The key without its last digit.
+// Kept: a key is a plain number of a lent table, so that it is in span is a clause here and below.
 fn above_digit(key: i64) -> i64
     requires { nat_abs key ≤ max_key }
     ensures { result ≡ above key }
