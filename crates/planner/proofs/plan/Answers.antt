@@ -46,12 +46,6 @@ returns-in_err-check_room c =
     short_table a.s a.steps.now a.blocks.now a.processors.now a.values.now (accepted p) c.in_ok-accepted.accepted.iterations (count p) (planning_of c.from_residual-in_err-check_room.result) (code e)
     (planning-out c.from_residual-in_err-check_room.result e c.from_residual-in_err-check_room.ensures.1) (sym (ap number_in w) ∙ room q) (λ z. refused-above c.check_room.result e w (ap number_in w ∙ z))
 
-pub make-requires : goal.make-requires
-make-requires c =
-    let a = c.args in
-    let r = room (goal.at.make-requires c).After-check_room in
-    all_enough c.in_ok-accepted.accepted.iterations (length a.steps.now) (length a.blocks.now) (length a.processors.now) (length a.values.now) (sym r ∙ ap number_in c.in_ok-check_room.was)
-
 pub returns : goal.returns
 returns c =
     let a = c.args in
@@ -65,3 +59,9 @@ returns c =
     (f.ensures.value ∙ ap (λ s. plan_answer s 0) e)
     (f.ensures.steps_after ∙ ap (λ s. steps_of s ++ drop t.iterations a.steps.now) e) (f.ensures.blocks_after ∙ ap (λ s. blocks_of s ++ drop t.iterations a.blocks.now) e)
     (f.ensures.processors_after ∙ ap (λ s. processors_of s ++ drop t.iterations a.processors.now) e) (f.ensures.values_after ∙ ap (λ s. values_of s ++ drop t.iterations a.values.now) e)
+
+pub make-requires : goal.make-requires
+make-requires c =
+    let a = c.args in
+    let r = room (goal.at.make-requires c).After-check_room in
+    all_enough c.in_ok-accepted.accepted.iterations (length a.steps.now) (length a.blocks.now) (length a.processors.now) (length a.values.now) (sym r ∙ ap number_in c.in_ok-check_room.was)
