@@ -33,9 +33,9 @@ module _ (steps processors done : List ℕ) (p : ℕ) where
   pub taken-below : (k j : ℕ) → taken_of k ≡ some j → j < k
   taken-below k j e = (least-some (waits seen p) (step_in seen) k j e).below
 
-  pub taken_within : (k : ℕ) (best : Found ℕ) → option_in best ≡ taken_of k → k ≤ length steps → IfSome best (λ j. j < length steps)
-  taken_within k None e h = tt
-  taken_within k (Some j) e h = omega (arith, taken-below k j (sym e))
+  pub taken_within : (k n : ℕ) (best : Found ℕ) → option_in best ≡ taken_of k → k ≤ n → IfSome best (λ j. j < n)
+  taken_within k n None e h = tt
+  taken_within k n (Some j) e h = omega (arith, taken-below k j (sym e))
 
   -- none of none
   pub taken-none : none ≡ taken_of 0

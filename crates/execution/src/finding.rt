@@ -54,10 +54,11 @@ impl Seen<'_> {
     // The iteration that processor p takes: the one that is not done, least in step, then in rank.
     pub fn next_iteration(&self, steps: &[u32], p: u8) -> Option<usize>
         requires { length self.now.processors.now ≤ length steps.now }
-        ensures { option_in result ≡ least
+        ensures taken { option_in result ≡ least
             (waits (view_in steps.now self.now.processors.now self.now.done.now []) p)
             (step_in (view_in steps.now self.now.processors.now self.now.done.now []))
             (length self.now.processors.now) }
+        ensures below { IfSome result (λ k. k < length self.now.processors.now) }
     {
         let mut best = None;
         // Kept: k is what is answered and what `steps` is asked for, so `done` is read by it too; a

@@ -3,7 +3,7 @@ use mathlib.Core.Path.{ap, ◌∙◌}
 use mathlib.Core.Bool.{true}
 use Prim.Native.Nat.{ℕ}
 use native.Mathlib.Omega.{arith}
-use lib.ListN.{get_or}
+use lib.ListN.{length, get_or}
 use Rattle.execution.specs.Inner.{option_in}
 use Rattle.execution.specs.Rules.{better}
 use Rattle.execution.proofs.FindingLaws.{taken-none, taken_within, taken-elsewhere, taken-done, taken-waiting}
@@ -18,7 +18,7 @@ better_of-best-requires-clause-best_in_bounds c =
     let a = c.args in
     let s = a.self.now in
     let k = c.loop-k.k in
-    taken_within a.steps.now s.processors.now s.done.now a.p k c.loop-k.best c.loop-k.invariant (omega arith)
+    taken_within a.steps.now s.processors.now s.done.now a.p k (length a.steps.now) c.loop-k.best c.loop-k.invariant (omega arith)
 
 pub loop-k-preserved : goal.loop-k-preserved
 loop-k-preserved c =
@@ -38,3 +38,6 @@ loop-k-preserved c =
             ap option_in w.best-is ∙ c.loop-k.invariant ∙ taken-elsewhere a.steps.now ps s.done.now a.p k w'.if-processor-p.false
       ]
     ]
+
+pub returns-clause-below : goal.returns-clause-below
+returns-clause-below c = let s = c.args.self.now in taken_within c.args.steps.now s.processors.now s.done.now c.args.p c.loop-k.k (length s.processors.now) c.loop-k.best c.loop-k.invariant c.loop-k.auto.k-end
