@@ -64,7 +64,6 @@ pub fn is_out_of_span(vector: &[i64]) -> bool
 }
 
 // Whether two dependences are equal.
-// Kept: a name for `==`, which says that it is `eq_v`, the word of the definitions.
 fn are_equal(a: &[i64], b: &[i64]) -> bool
     ensures { result ≡ eq_v a.now b.now }
 {
@@ -166,13 +165,6 @@ impl<'a> Dependences<'a> {
             (λ i. out_of_span (take self.now.n (slice_index_or self.now.rows.now i [])) ≡ false) }
         ensures { result ≡ list_any (λ row. against time.now (take self.now.n row)) self.now.rows.now }
     {
-        // Kept: a loop, since the proof that `any` may call a closure that asks something of each
-        // row didn't close.
-        for row in self.rows {
-            if is_against(time, row) {
-                return true;
-            }
-        }
-        false
+        self.rows.iter().any(|row| is_against(time, row))
     }
 }
