@@ -64,6 +64,7 @@ pub fn is_out_of_span(vector: &[i64]) -> bool
 }
 
 // Whether two dependences are equal.
+// Kept: a name for `==`, which says that it is `eq_v`, the word of the definitions.
 fn are_equal(a: &[i64], b: &[i64]) -> bool
     ensures { result ≡ eq_v a.now b.now }
 {
