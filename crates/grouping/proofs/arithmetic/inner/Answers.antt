@@ -41,17 +41,11 @@ abbrev β3 : List ℕ
 abbrev β4 : List ℕ
 β4 = 900000000 ∷ β3
 
-abbrev ρ2 : After-term-2 → List ℤ
-ρ2 e = e.term.result ∷ e.term-2.result ∷ []
-
 abbrev ρ3 : After-term-3 → List ℤ
 ρ3 e = e.term.result ∷ e.term-2.result ∷ e.term-3.result ∷ []
 
 abbrev ρ4 : After-term-4 → List ℤ
 ρ4 e = e.term.result ∷ e.term-2.result ∷ e.term-3.result ∷ e.term-4.result ∷ []
-
-h2 : (e : After-term-2) → Within (ρ2 e) β2
-h2 e = let d = e in (small (goal.at.After-term-2 d).Start e.term.result 0 e.term.ensures, (small (goal.at.After-term-2 d).Start e.term-2.result 1 e.term-2.ensures, tt))
 
 h3 : (e : After-term-3) → Within (ρ3 e) β3
 h3 e = let q = e in let d = q in (small (goal.at.After-term-3 d).Start q.term.result 0 q.term.ensures, (small (goal.at.After-term-3 d).Start q.term-2.result 1 q.term-2.ensures, (small (goal.at.After-term-3 d).Start e.term-3.result 2 e.term-3.ensures, tt)))
@@ -62,9 +56,6 @@ h4 e =
     let q = r in
     let d = q in
     (small (goal.at.After-term-4 d).Start q.term.result 0 q.term.ensures, (small (goal.at.After-term-4 d).Start q.term-2.result 1 q.term-2.ensures, (small (goal.at.After-term-4 d).Start r.term-3.result 2 r.term-3.ensures, (small (goal.at.After-term-4 d).Start e.term-4.result 3 e.term-4.ensures, tt))))
-
-pub overflow_add-result : goal.overflow_add-result
-overflow_add-result c = fits (ρ2 c) β2 sum2 (h2 c) tt
 
 pub overflow_add-result-2 : goal.overflow_add-result-2
 overflow_add-result-2 c = fits (ρ3 c) β3 sum3 (h3 c) tt

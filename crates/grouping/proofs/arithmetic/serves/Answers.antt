@@ -6,7 +6,7 @@ use lib.ListN.{get_or}
 use lib.IntN.{ℤ, pos, ◌*ℤ◌}
 use mir.Facts.{to_z-of_z}
 use Rattle.integers.proofs.Bounds.{Has}
-use Rattle.integers.proofs.Division.{need_rem, divides_yes, divides_no}
+use Rattle.integers.proofs.Division.{divides_yes, divides_no}
 use Rattle.integers.proofs.Machine.{Within, given, reads, fits, has_g, all_read}
 use Rattle.integers.proofs.Solver.{var, ◌⊗◌}
 use Rattle.integers.proofs.Vector.{get_or-within}
@@ -31,9 +31,6 @@ product d = has_g (all_read (ρ d)) (ρ d) β (var 0 ⊗ var 1) (given (ρ d) β
 
 pub overflow_mul-k : goal.overflow_mul-k
 overflow_mul-k c = fits (ρ (goal.at.overflow_mul-k c).At-loop-c) β (var 0 ⊗ var 1) (h (goal.at.overflow_mul-k c).At-loop-c) tt
-
-pub nonzero_rem-k : goal.nonzero_rem-k
-nonzero_rem-k c = need_rem (product (goal.at.nonzero_rem-k c).At-loop-c) c.ranges.s c.requires.pos_bound
 
 pub returns-then-k-c-ne0-clause-fact : goal.returns-then-k-c-ne0-clause-fact
 returns-then-k-c-ne0-clause-fact c = λ e v.

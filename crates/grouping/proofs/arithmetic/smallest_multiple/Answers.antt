@@ -64,13 +64,6 @@ under c =
     below (to_z w64 c.loop-k.k-bits) c.args.s (most (goal.at.Else-serves c).At-loop-k)
     (λ e. fails c (λ i l. record { quotient = get_or c.args.x.now i (pos 0); product = *ℤ_comm (get_or c.args.x.now i (pos 0)) c.args.s ∙ ap (λ (z : ℤ). z *ℤ get_or c.args.x.now i (pos 0)) (sym e) }))
 
-pub loop-k-smaller : goal.loop-k-smaller
-loop-k-smaller c =
-    let d = (goal.at.loop-k-smaller c).At-loop-k in
-    let h = positive d in
-    let u = under c in
-    rw (next-is d, to_z-of_z c.ranges.s) (omega (ints, one-more (k d) h, sizes (k d), sizes c.args.s))
-
 pub loop-k-preserved : goal.loop-k-preserved
 loop-k-preserved c =
     let d = (goal.at.loop-k-preserved c).At-loop-k in

@@ -13,16 +13,14 @@ use Rattle.grouping.proofs.time_vector.TimeVector.multiplier.Goals as goal
 pub inner-requires : goal.inner-requires
 inner-requires c = let a = all_wider 16 30000 c.args.self.now.p (lit≤ tt) c.args.self.now.within in (a, a)
 
-pub smallest_multiple-requires : goal.smallest_multiple-requires
-smallest_multiple-requires c =
-    rw (told c.inner.result c.inner.type_inv) (rw c.inner.ensures (record {
-      pos_bound = c.args.self.now.positive;
-      s_bound = (
-        omega (arith, dot_within 16 16 c.args.self.now.p c.args.self.now.p (omega arith) (omega arith) c.args.self.now.within c.args.self.now.within),
-        subst (AllWithin 100000) (sym c.project.ensures)
-            (all_wider _ 100000 (projection c.args.self.now.p c.args.d) (lit≤ tt) (projection-within 16 16 c.args.self.now.p c.args.d (omega arith) (omega arith) c.args.self.now.within c.requires)),
-      );
-    }))
+pub smallest_multiple-requires-clause-s_bound : goal.smallest_multiple-requires-clause-s_bound
+smallest_multiple-requires-clause-s_bound c =
+    let p = c.args.self.now.p in
+    let w = c.args.self.now.within in
+    rw (told c.inner.result c.inner.type_inv) (rw c.inner.ensures (
+      omega (arith, dot_within 16 16 p p (omega arith) (omega arith) w w),
+      subst (AllWithin 100000) (sym c.project.ensures) (all_wider _ 100000 (projection p c.args.d) (lit≤ tt) (projection-within 16 16 p c.args.d (omega arith) (omega arith) w c.requires)),
+    ))
 
 pub returns : goal.returns
 returns c =
