@@ -11,7 +11,7 @@ use Rattle.integers.proofs.Solver.{Expr, var, ◌⊕◌}
 use Rattle.integers.proofs.Vector.{get_or-within}
 use Rattle.grouping.proofs.Four.{dot_four}
 use Rattle.grouping.proofs.arithmetic.inner.Goals as goal
-use Rattle.grouping.proofs.arithmetic.inner.Goals.{After-term-2, After-term-3, After-term-4, Start}
+use Rattle.grouping.proofs.arithmetic.inner.Goals.{After-term-3, After-term-4, Start}
 
 -- a product is small
 small : (d : Start) (z : ℤ) (i : ℕ) → z ≡ get_or d.args.a i (pos 0) *ℤ get_or d.args.b i (pos 0) → nat_abs z ≤ 900000000
