@@ -4,7 +4,7 @@ use Rattle.std.proofs.lemmas.List.{length-take-le, length-replicate, get_or-take
 use Rattle.integers.specs.Vector.{Vector}
 use Rattle.grouping.specs.Basis.{basis_frame}
 use Rattle.partition.specs.Heads.{points_by}
-use Rattle.partition.proofs.LineGroups.{numbers-long, gather-within, gather-numbers, lines-grouped}
+use Rattle.partition.proofs.LineGroups.{numbers-long, gather-within, lines-grouped}
 use Rattle.partition.proofs.group_sized.Given.{Over}
 use Rattle.partition.proofs.group_sized.Goals as goal
 use Rattle.partition.proofs.group_sized.Goals.{After-group_points-made}
@@ -31,12 +31,6 @@ gather-requires-clause-within g c =
     let d = (goal.at.gather-requires-clause-within g c).After-group_points-made in
     let m = c.group_points-made in
     gather-within (basis_frame c.args.f) c.args.f.basis.count c.points_into.new.points (ps g d) c.args.groups.now m.new.groups m.ensures.grouped c.points_into.ensures.0 (room g d) (blank g d) m.new.blocks m.ensures.blocks_after (found g d)
-
-pub gather-requires-clause-by_index : goal.gather-requires-clause-by_index
-gather-requires-clause-by_index g c =
-    let d = (goal.at.gather-requires-clause-by_index g c).After-group_points-made in
-    let m = c.group_points-made in
-    gather-numbers (basis_frame c.args.f) c.args.f.basis.count c.points_into.new.points (ps g d) c.args.groups.now m.new.groups m.ensures.grouped c.points_into.ensures.0 (room g d) (blank g d) m.new.blocks m.ensures.blocks_after (found g d)
 
 -- how many numbers there are
 many : (g : Over) (c : After-group_points-made g) → length c.group_points-made.new.blocks ≡ length c.args.lines.now.heads.now

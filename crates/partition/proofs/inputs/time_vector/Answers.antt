@@ -17,9 +17,6 @@ fits c =
 pub slice_bounds-row_of-end : goal.slice_bounds-row_of-end
 slice_bounds-row_of-end c = sym (length-take-le c.depth.result c.args.s.now.nest.time (fits (goal.at.slice_bounds-row_of-end c).After-depth).1)
 
-pub row_of-requires : goal.row_of-requires
-row_of-requires c = let f = fits (goal.at.row_of-requires c).After-depth in omega (arith, f.0, length-take-le c.depth.result c.args.s.now.nest.time f.1)
-
 -- the components, with zeros behind
 front : (c : After-row_of) → c.row_of.result ≡ padded 4 (time_of c.args.s.now.nest)
 front c = c.row_of.ensures ∙ ap (padded 4) (time-front c.args.s.now.nest c.depth.result c.depth.ensures (fits (goal.at.After-row_of c).After-depth).1)

@@ -1,15 +1,11 @@
 -- `raised` meets its contract. Assumes nothing.
-use mathlib.Core.Path.{◌≡◌, sym, ap, subst, ◌∙◌}
+use mathlib.Core.Path.{◌≡◌, ap, ◌∙◌}
 use mathlib.Core.List.{[], ◌∷◌}
 use Prim.Native.Nat.{◌*◌, ◌≤◌}
-use native.Mathlib.Omega.{arith}
-use lib.Dec.{T}
-use lib.IntN.{ℤ, pos, nat_abs, ◌+ℤ◌}
-use lib.Signed.{◌≤ℤ◌, non_neg, yes_non_neg}
-use mir.Syntax.{w32}
-use mir.Val.{Fits}
+use lib.IntN.{pos, nat_abs, ◌+ℤ◌}
+use lib.Signed.{◌≤ℤ◌}
 use Rattle.integers.proofs.Linear.{ints, sum, sizes}
-use Rattle.integers.proofs.Machine.{reads, fits, read}
+use Rattle.integers.proofs.Machine.{reads, read}
 use Rattle.integers.proofs.Solver.{var, con, ◌⊕◌}
 use Rattle.nest.proofs.Counted.{size_is}
 use Rattle.partition.specs.KeySteps.{max_product}
@@ -26,12 +22,6 @@ above c = omega (ints, c.requires, sum c.args.product (pos max_product), sizes c
 
 few : (c : Start) → nat_abs (c.args.product +ℤ pos max_product) ≤ 2 * max_product
 few c = omega (ints, c.requires, sum c.args.product (pos max_product), sizes c.args.product, sizes (c.args.product +ℤ pos max_product))
-
-pub overflow_add-result : goal.overflow_add-result
-overflow_add-result c = fits (c.args.product ∷ []) (max_product ∷ []) (var 0 ⊕ con (pos max_product)) (c.requires, tt) tt
-
-pub overflow_cast-result : goal.overflow_cast-result
-overflow_cast-result c = subst (λ (z : ℤ). T (non_neg z) × Fits w32 (nat_abs z)) (sym (raised_is c)) (yes_non_neg (above c), record { fits = omega (arith, few c) })
 
 pub returns : goal.returns
 returns c = ap nat_abs (raised_is c) ∙ size_is (c.args.product +ℤ pos max_product) (above c)

@@ -1,5 +1,5 @@
 -- `product_at` meets its contract. Assumes nothing.
-use Rattle.std.proofs.Common.{◌≡◌, ◌∙◌, ℕ, ℤ, pos, length, get_or, take, sym, ap, arith}
+use Rattle.std.proofs.Common.{◌≡◌, ◌∙◌, ℕ, ℤ, pos, length, get_or, take, ap, arith}
 use lib.Dec.{lit≤}
 use Rattle.integers.proofs.Bounds.{told, back}
 use Rattle.integers.specs.Vector.{dots}
@@ -28,11 +28,6 @@ slice_is c =
     let v = digits (n c) (key c) in
     let l = length_digits (n c) (key c) in
     ap (take (n c)) (point-is c) ∙ part-first (padded max_depth v) (n c) (omega (arith, c.args.self.now.timed.few_loops, length-padded max_depth v (omega (arith, l, c.args.self.now.timed.few_loops)))) ∙ part-padded max_depth (n c) v l
-
-pub inner_product-requires-clause-lengths : goal.inner_product-requires-clause-lengths
-inner_product-requires-clause-lengths c =
-    let d = (goal.at.inner_product-requires-clause-lengths c).After-vector_at-point in
-    rw (slice_is d) (let l = length_digits (n d) (key d) in (sym l, omega (arith, l, c.args.self.now.timed.few_loops)))
 
 pub inner_product-requires-clause-by_index : goal.inner_product-requires-clause-by_index
 inner_product-requires-clause-by_index c =
