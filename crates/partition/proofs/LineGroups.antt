@@ -81,9 +81,6 @@ module _ (F : Frame) (count : ℕ) (t ps K₀ K : List Vector) (G : Grouped F co
   pub gather-within : RowsWithin max_entry (rows K (length out))
   gather-within = subst (λ (n : ℕ). RowsWithin max_entry (rows K n)) (sym numbers-long) (rows-within max_entry K (length t) G.within)
 
-  pub gather-numbers : out ≡ map (λ x. place (eq_v x) (firsts eq_v (rows K (length out)))) (rows K (length out))
-  gather-numbers = subst (λ (n : ℕ). out ≡ map (λ x. place (eq_v x) (firsts eq_v (rows K n))) (rows K n)) (sym numbers-long) numbers-are
-
   -- what is left in the end
   pub lines-grouped : (made : ℕ) → made ≡ length (firsts eq_v (rows K (length t)))
       → (U : List Vector) → rows U (length (firsts eq_v (rows K (length out)))) ≡ firsts eq_v (rows K (length out))
