@@ -1,6 +1,6 @@
 -- What a slice of an array has, by the definitions that name its places. Assumes nothing.
 use mathlib.Core.Path.{◌≡◌, refl, sym, ◌∙◌, ap, ap₂}
-use mathlib.Core.Bool.{Bool, false}
+use mathlib.Core.Bool.{Bool}
 use mathlib.Core.List.{List, [], map}
 use Prim.Native.Nat.{ℕ, zero, suc, ◌+◌, ◌*◌, ◌<◌, ◌≤◌}
 use native.Mathlib.Nat.{zero-mul, suc-mul, not-suc-le-zero, le_of_suc-le-suc}
@@ -13,7 +13,7 @@ use Rattle.std.proofs.lemmas.Slice.Zip.{length-zip, get_or-zip}
 use Rattle.std.specs.List.{list_any, zip}
 use Rattle.std.specs.Simd.{first_chunks}
 use Rattle.integers.specs.Lists.{any, tab}
-use Rattle.integers.proofs.Lists.{tab-list, tab-same, any-tab-each}
+use Rattle.integers.proofs.Lists.{tab-list, tab-same}
 use Rattle.nest.specs.declared.LoopNest.{LoopNest}
 use Rattle.nest.specs.Nest.{part, depth_of, dependence_at, limit_at, limits_in, limits_of, max_depth}
 use Rattle.nest.specs.Refusals.{crossed}
@@ -101,8 +101,3 @@ module _ (k n m : ℕ) (xs : List ℤ) (few : n ≤ max_depth) (some : m ≤ k) 
   -- so what is said of the rows is said of the dependences
   pub any-rows : (p : List ℤ → Bool) → list_any (λ row. p (take n row)) (take m (first_chunks max_depth k xs)) ≡ any p (tab (dependence_at xs n) m)
   any-rows p = mapped-any (take n) p (take m (first_chunks max_depth k xs)) ∙ ap (any p) rows-tab
-
-  -- and where none of these passes, no row does
-  pub row-none : (p : List ℤ → Bool) → any p (tab (dependence_at xs n) m) ≡ false → (i : ℕ) → i < length (take m (first_chunks max_depth k xs))
-      → p (take n (get_or (take m (first_chunks max_depth k xs)) i [])) ≡ false
-  row-none p e i h = let l : i < m = omega (arith, h, rows-length) in rw (row-is i l) (any-tab-each p (dependence_at xs n) m i e l)

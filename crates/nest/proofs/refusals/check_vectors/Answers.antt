@@ -7,7 +7,6 @@ use mathlib.Core.List.{List, [], ◌∷◌, map}
 use Prim.Native.Nat.{ℕ, ◌/◌, ◌≤◌}
 use native.Mathlib.Omega.{arith}
 use lib.ListN.{length, take}
-use Rattle.std.proofs.lemmas.List.{length-take-le}
 use Rattle.std.specs.List.{list_any}
 use Rattle.std.specs.Simd.{first_chunks}
 use lib.IntN.{ℤ, pos}
@@ -16,7 +15,7 @@ use Rattle.integers.specs.Vector.{Vector, eq_v}
 use Rattle.nest.specs.Nest.{part, time_of, dependence_at, dependences_of, nest_from, to_ℕ, max_depth}
 use Rattle.nest.specs.Refusals.{Refusal, out_of_span, backward, against, bad_time, bad_dependence, backward_dependence, equal_dependences, against_time, number, holds, first_met, vector_order}
 use Rattle.nest.proofs.FirstMet.{met, passed}
-use Rattle.nest.proofs.Slices.{part-first, rows-tab, any-rows, row-none}
+use Rattle.nest.proofs.Slices.{part-first, rows-tab, any-rows}
 use Rattle.nest.proofs.refusals.check_vectors.Goals as goal
 use Rattle.nest.proofs.refusals.check_vectors.Goals.{After-any_against, After-any_backward, After-any_out_of_span, After-any_equal, After-is_out_of_span, Else-any_against, Else-any_backward, Else-any_out_of_span, Else-any_equal, Else-is_out_of_span, Start}
 
@@ -148,12 +147,6 @@ passed11 : (c : Else-any_against) → first_met (nest (start5 c)) vector_order �
 passed11 c = passed10 (goal.at.Else-any_against c).Else-any_equal ∙ passed (nest (start5 c)) against_time [] (against_test c.before ∙ c.if-any_against.false)
 
 -- what the products ask for
-time-fine : (c : Else-is_out_of_span) → out_of_span (part (start1 c).args.time.now 0 (start1 c).args.n) ≡ false
-time-fine c = time-inside c.before ∙ c.if-is_out_of_span.false
-
-dependences_fine : (c : Else-any_out_of_span) → any out_of_span (tab (dependence_at (start2 c).args.dependences.now (start2 c).args.n) (start2 c).args.m) ≡ false
-dependences_fine c = sym (rows_inside c.before) ∙ c.if-any_out_of_span.false
-
 pub returns-then-is_out_of_span : goal.returns-then-is_out_of_span
 unfolding number
 returns-then-is_out_of_span c = sym (met (nest c.before.before) bad_time from8 (time_test c.before ∙ c.if-is_out_of_span.true))
@@ -169,20 +162,6 @@ returns-then-any_backward c = sym (passed8 (goal.at.returns-then-any_backward c)
 pub returns-then-any_equal : goal.returns-then-any_equal
 unfolding number
 returns-then-any_equal c = sym (passed9 (goal.at.returns-then-any_equal c).Else-any_backward ∙ met (nest (start10 c.before)) equal_dependences from11 (equal_test c.before ∙ c.if-any_equal.true))
-
-pub any_against-requires : goal.any_against-requires
-any_against-requires c =
-    let p = goal.at.any_against-requires c in
-    let s = p.Start in
-    let a = s.args in
-    let r = c.new-listed.ensures in
-    record {
-      lengths = length-take-le a.n a.time.now s.requires.1 ∙ sym r.depth;
-      time_span = ap out_of_span (part-first a.time.now a.n s.requires.1) ∙ time-fine p.Else-is_out_of_span;
-      row_spans =
-          rw (r.depth, r.rows)
-          (row-none (count s) a.n a.m a.dependences.now s.requires.0 (enough s) s.requires.2 out_of_span (dependences_fine p.Else-any_out_of_span));
-    }
 
 pub returns-then-any_against : goal.returns-then-any_against
 unfolding number

@@ -8,7 +8,7 @@ use native.Mathlib.Omega.{arith}
 use lib.IntN.{ℤ, pos, ◌-ℤ◌}
 use lib.ListN.{length, get_or, set}
 use borrow.Author.Rules.{rules}
-use Rattle.integers.proofs.Machine.{Within, fits, read}
+use Rattle.integers.proofs.Machine.{Within, read}
 use Rattle.integers.proofs.Solver.{var, ◌⊖◌}
 use Rattle.nest.specs.Nest.{padded, max_depth, max_limit, max_component}
 use Rattle.nest.specs.Points.{source}
@@ -40,9 +40,6 @@ sizes : (c : In-Some) → Within (ρ c) β
 sizes c =
     let h = c.requires.by_index (k c) (index c).below in
     (rw ((index c).here (pos 0)) at h.0, (rw ((component c).here (pos 0)) at h.1, tt))
-
-pub overflow_sub-source : goal.overflow_sub-source
-overflow_sub-source c = let t : In-Some = c.before.before in fits (ρ t) β (var 0 ⊖ var 1) (sizes t) tt
 
 pub loop-k-init : goal.loop-k-init
 loop-k-init c =

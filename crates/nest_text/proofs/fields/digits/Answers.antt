@@ -1,5 +1,5 @@
 -- `digits` meets its contract. Assumes nothing.
-use mathlib.Core.Path.{◌≡◌, refl, sym, ◌∙◌}
+use mathlib.Core.Path.{◌≡◌, sym, ◌∙◌}
 use mathlib.Core.Bool.{true, false, ◌&&◌, cond}
 use Prim.Native.Nat.{ℕ, ◌≤◌, ◌<◌, ◌-◌, ◌^◌}
 use native.Mathlib.Omega.{arith}
@@ -16,9 +16,6 @@ use Rattle.nest_text.proofs.fields.digits.Goals as goal
 pub returns-then-not-well_led : goal.returns-then-not-well_led
 unfolding digits_of
 returns-then-not-well_led c = simp (sym c.well_led.ensures ∙ c.if-not-well_led.true)
-
-pub loop-b-init : goal.loop-b-init
-loop-b-init c = record { form = refl; said = refl; small = lit< tt }
 
 -- a byte that says no digit, and one that says the digit n
 no_digit : (b : ℕ) → None ≡ cond (is_digit b) (Some (b - zero_digit)) None → is_digit b ≡ false
@@ -55,18 +52,6 @@ returns-in_err-value c =
 -- the value of at most five digits
 small : (value k : ℕ) → value < 10 ^ k → k ≤ 5 → value < 100000
 small value k h le = lt_of_lt_of_le h (pow-le-pow_right {n = 10} (lit< tt) {j = 5} le)
-
-pub overflow_mul-value : goal.overflow_mul-value
-overflow_mul-value c = omega (arith, small c.loop-b.value c.loop-b.b-index c.loop-b.invariant.small (omega arith))
-
-pub overflow_add-value : goal.overflow_add-value
-overflow_add-value c =
-    let l = c.loop-b in
-    omega (
-      arith,
-      small l.value l.b-index l.invariant.small (omega arith),
-      (some_digit (get_or c.args.d.now l.b-index 0) c.in_ok-value.field-0 c.in_ok-value.ensures).at_most,
-    )
 
 pub loop-b-preserved : goal.loop-b-preserved
 loop-b-preserved c =

@@ -4,7 +4,6 @@ use mathlib.Core.List.{[], ◌∷◌, ◌++◌}
 use Prim.Native.Nat.{ℕ, ◌-◌, ◌+◌, ◌/◌, ◌%◌, ◌≤◌, ◌<◌, ◌^◌}
 use native.Mathlib.Omega.{arith}
 use lib.ListN.{length, set, drop, take, length-set, length-drop, take-append-drop}
-use lib.Seq.{drop-length}
 use Rattle.nest_text.specs.Fields.{Bytes, columns, zero_digit, digits_to}
 use Rattle.nest_text.proofs.FieldLaws.{drop-set-here, take_set_before, two_digits, tenth, digits_ten}
 use Rattle.nest_text.proofs.FieldLaws.{digits_last}
@@ -52,19 +51,6 @@ module _ (out out₀ : Bytes) (at rest v n : ℕ) (one : 1 ≤ at) (six : at ≤
       let all : digits_to columns n [] ≡ drop (at - 1) (set out (at - 1) v) = digits ∙ last out out₀ at rest v one long six few e in
       let front = kept out out₀ at rest v one long six before in
       (rw (all, ← front) (sym (take-append-drop (at - 1) (set out (at - 1) v))), (omega arith, rw all (simp (length-drop, length-set) (omega arith))))
-
-pub loop-at-init : goal.loop-at-init
-loop-at-init c =
-    let o = c.args.out.now in
-    let e = c.requires.0 in
-    record {
-      some = omega arith;
-      few = omega arith;
-      long = e;
-      before = refl;
-      small = rw e c.requires.1;
-      digits = rw (drop-length o, e) refl;
-    }
 
 pub loop-at-preserved : goal.loop-at-preserved
 loop-at-preserved c =

@@ -8,20 +8,10 @@ use Rattle.grouping.specs.Periods.{Serves}
 use Rattle.partition.proofs.LineLaws.{less_one, none-more, none-found}
 use Rattle.partition.proofs.inputs.shortest.Goals as goal
 
-pub loop-g-init : goal.loop-g-init
-loop-g-init c = record { some = omega ints; most = omega ints; none = λ k l m s. absurd (omega (ints, l, m)) }
-
 pub serves-requires-clause-s_bound : goal.serves-requires-clause-s_bound
 serves-requires-clause-s_bound c =
     let i = c.loop-g.invariant in
     (omega (ints, i.some, i.most, sizes (to_z w64 c.loop-g.g-bits)), lit≤ tt, all_wider 16 100000 c.args.p (lit≤ tt) c.requires)
-
-pub divided-requires : goal.divided-requires
-divided-requires c =
-    let i = c.loop-g.invariant in
-    let z = to_z w64 c.loop-g.g-bits in
-    let l : length c.args.p ≡ 4 = search rules in
-    (c.requires, i.some, omega (ints, i.some, i.most, sizes z), subst (λ n. Serves c.args.p z (pos 1) n) l (c.serves.ensures.serves c.if-serves.true))
 
 pub returns-then-serves : goal.returns-then-serves
 returns-then-serves c =
