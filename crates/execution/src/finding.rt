@@ -97,7 +97,8 @@ impl Seen<'_> {
             p k i (source_rank s.now.nest k i)) (count_of s.now.nest) }
     {
         let point = s.point_of(k);
-        // Kept: i is the number of a dependence, by which its source and its bit are asked for.
+        // Kept: i is the number by which a source and its bit are asked for, so that `all` over the
+        // same range would be no plainer.
         for i in 0..s.count() {
             if !self.is_there(s.source_at(point, i), p, k, i) {
                 return false;

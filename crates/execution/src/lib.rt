@@ -121,6 +121,7 @@ pub fn compute(
 
 // A delivery of a message, of an accepted nest: its bit is set, if it is a message that can be
 // delivered.
+// Kept: three buffers, cut into a `Seen` here as in `compute`, since one of them is written then.
 fn deliver<N: RunNest>(
     s: &N,
     message: Delivery,

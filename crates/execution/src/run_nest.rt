@@ -41,18 +41,23 @@ impl RunNest for AcceptedNest {
 
     ghost accepted = { λ s. s.accepted };
 
+    // As it was counted.
     fn iterations(&self) -> usize {
         self.iterations
     }
 
+    // Its own.
     fn count(&self) -> usize {
         AcceptedNest::count(self)
     }
 
+    // Kept: by its own methods; the source by its loops' `source_rank` would ask for the sizes of
+    // the dependence again.
     fn source(&self, k: usize, i: usize) -> Option<usize> {
         self.source_at(self.point_of(k), i)
     }
 
+    // Itself.
     fn copied(&self) -> AcceptedNest {
         *self
     }

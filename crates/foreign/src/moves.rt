@@ -13,7 +13,7 @@ use nest::{LoopNest, Refusal};
 // Kept: the C interface gives a kind as a number (`rowlock_move`, whose contract cites `move_in`).
 pub const COMPUTE: usize = 1;
 
-// Kept: the same.
+// Kept: the C interface gives a kind as a number, as above.
 pub const DELIVER: usize = 2;
 
 // A processor that no machine has: the number behind the last of the largest hypercube.
@@ -23,7 +23,7 @@ const NO_PROCESSOR: usize = 1 << LoopNest::MAX_CUBE;
 
 // The move that numbers ask for: a kind that is neither asks for a compute on a processor that is
 // not there, which is refused with 18.
-// Kept: `From` cannot stand in this crate, where neither numbers nor `Move` are its own.
+// Kept: README names this function, and what is public stays; `From` would be a second one.
 pub fn move_in(kind: usize, first: usize, second: usize) -> Move
     ensures { result ≡ move_in kind first second }
 {
@@ -38,7 +38,7 @@ pub fn move_in(kind: usize, first: usize, second: usize) -> Move
 }
 
 // The number of an answer: 0 for a call that is done, or the number of its refusal.
-// Kept: C has no Result, and `From` cannot stand in this crate, where the answer is not its own.
+// Kept: the C interface. C has no Result, so an answer is told by its number.
 pub fn number_of<T>(answer: &Result<T, Refusal>) -> u8
     ensures { result ≡ number_in answer.now }
 {
@@ -49,7 +49,7 @@ pub fn number_of<T>(answer: &Result<T, Refusal>) -> u8
 }
 
 // What an answer carries.
-// Kept: `From` cannot stand in this crate, where neither the answer nor numbers are its own.
+// Kept: README names this function, and what is public stays; `From` would be a second one.
 pub fn made_in(answer: Result<Done, Refusal>) -> [usize; 2]
     ensures { result ≡ made_in (answer_in answer) }
 {

@@ -39,7 +39,7 @@ fn part_at<const N: usize>(numbers: &[i64; NUMBERS], at: usize) -> [i64; N]
 }
 
 // The nest that 63 numbers are.
-// Kept: `From` cannot stand in this crate, where neither numbers nor `LoopNest` are its own.
+// Kept: README names this function, and what is public stays; `From` would be a second one.
 pub fn nest_in(numbers: &[i64; NUMBERS]) -> LoopNest
     ensures { result ≡ nest_in numbers.now }
 {
@@ -67,7 +67,7 @@ fn put(out: &mut [i64], at: usize, numbers: &[i64])
 }
 
 // The 63 numbers of a nest.
-// Kept: `From` cannot stand in this crate, where neither `LoopNest` nor numbers are its own.
+// Kept: README names this function, and what is public stays; `From` would be a second one.
 pub fn numbers_of(s: LoopNest) -> [i64; NUMBERS]
     ensures { result ≡ numbers_of s }
 {
@@ -126,14 +126,17 @@ impl RunNest for AcceptedNumbers<'_> {
 
     ghost accepted = { λ s. s.accepted };
 
+    // As it was counted.
     fn iterations(&self) -> usize {
         self.iterations
     }
 
+    // Where it stands in the numbers.
     fn count(&self) -> usize {
         nest::to_size(self.numbers[1])
     }
 
+    // By the loops where they stand, with no copy of the nest.
     fn source(&self, k: usize, i: usize) -> Option<usize> {
         let nest = parts_in(self.numbers);
         let loops = nest.loops();
@@ -141,6 +144,7 @@ impl RunNest for AcceptedNumbers<'_> {
         loops.source_rank(dependence, k)
     }
 
+    // The one that the numbers are.
     fn copied(&self) -> AcceptedNest {
         AcceptedNest {
             nest: nest_in(self.numbers),

@@ -6,6 +6,7 @@ ghost use Rattle.grouping.specs.Limits.{max_group_size};
 use crate::MAX_CHOSEN;
 use numbering::Row;
 
+// Kept: two arrays, since the definitions (`FramedIn`) take the vectors and their duals so.
 // What does not depend on the iteration: P and three more vectors of a basis, the first `count` of
 // them the chosen ones, and the vectors that give coordinates in it (specs/Framed.antt).
 #[derive(Clone, Copy)]

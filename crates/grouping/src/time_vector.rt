@@ -1,4 +1,5 @@
 // A time vector, and what is asked of one vector to choose from (000, algorithm 1, steps 1 and 2).
+// Kept: a clause and no type says that this one is in span, as in arithmetic.rt.
 ghost use Rattle.std.specs.Prelude.{◌≡◌, not, ◌&&◌, eqb, pos, nat_abs, ◌≤ℤ◌};
 ghost use Rattle.integers.specs.Vector.{dots, is_zero_v, AllWithin};
 ghost use Rattle.grouping.specs.Framed.{AllWithin-prop};

@@ -41,7 +41,8 @@ fn next_messages(sources: &mut Sources, processors: &[u8]) -> usize
 {
     let here = processors[sources.iteration];
     let mut number = 0;
-    // Kept: a turn moves a cursor of the search, so the loop cannot go over what the search holds.
+    // Kept: a source is asked for by its dependence's number, so a loop over the distances is no
+    // plainer: it would count them beside.
     for i in 0..sources.distances.len() {
         if let Some(j) = sources.source(i) {
             if processors[j] != here {

@@ -19,6 +19,7 @@ pub struct Direction {
 
 impl Direction {
     // Whether it takes another bit.
+    // Kept: the bound of the bits is a clause, of all directions together in `deal_bit`.
     #[tactic(auto, using(crate::proofs::Small::shifted), unfolding(crate::specs::Mapping::takes_bit))]
     pub fn takes_bit(self) -> bool
         requires { self.bits ≤ max_cube }

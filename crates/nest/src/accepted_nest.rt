@@ -61,6 +61,8 @@ impl AcceptedNest {
         self.loops().rank_of(&point[..self.depth()])
     }
 
+    // Kept: point and number are clauses here and below, since a point is an array that callers
+    // have from `point_of`, and a type for it would be unwrapped at once.
     // The source of an index point along dependence i, with 0 in the places behind the depth.
     pub fn source_of(
         &self,

@@ -64,7 +64,8 @@ pub fn is_out_of_span(vector: &[i64]) -> bool
 }
 
 // Whether two dependences are equal.
-// Kept: a name for `==`, which says that it is `eq_v`, the word of the definitions.
+// Kept: a name for `==`. In the closure of `any` below, `==` itself is no plainer for a proof: here
+// it has a contract in the word of the definitions, `eq_v`.
 fn are_equal(a: &[i64], b: &[i64]) -> bool
     ensures { result ≡ eq_v a.now b.now }
 {
@@ -98,6 +99,8 @@ fn is_against(time: &[i64], row: &[i64; LoopNest::MAX_DEPTH]) -> bool
 }
 
 // Some dependences of n components, each in a row of its own.
+// Kept: the methods differ in their predicate alone and are a line each; one function that takes
+// the predicate would be given the same closures.
 #[derive(Clone, Copy)]
 pub struct Dependences<'a> {
     pub rows: &'a [[i64; LoopNest::MAX_DEPTH]],

@@ -13,6 +13,7 @@ pub fn distance(lower: i64, index: i64) -> u64
 }
 
 // How many indices a loop has whose limits are not crossed.
+// Kept: two numbers, which stand in two arrays of a nest, as the C interface has them.
 pub fn extent_of(lower: i64, upper: i64) -> u64
     requires { crossed (record { lower = lower; upper = upper }) ≡ false }
     ensures { result ≡ extent (record { lower = lower; upper = upper }) }

@@ -19,7 +19,8 @@ pub fn dependence_at(dependences: &[i64], n: usize, i: usize) -> &[i64]
 }
 
 // A point less a dependence, with 0 in the places behind the depth; both are in span.
-// Kept: the sizes are asked of two single vectors, as in `inner_product`.
+// Kept: the sizes are asked of two single vectors, as in `inner_product`. One function for this and
+// the `difference` of four numbers in `numbering` would take slices and ask what both ask.
 pub fn difference(point: &[i64], dependence: &[i64]) -> [i64; LoopNest::MAX_DEPTH]
     requires lengths { (length point.now ≤ max_depth) × (length dependence.now ≡ length point.now) }
     requires by_index { (k : ℕ) → k < length point.now → (nat_abs (get_or point.now k (pos 0)) ≤ max_limit)

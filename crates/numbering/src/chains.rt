@@ -12,6 +12,7 @@ use crate::{MAX_ROWS, Row};
 // its numbers, and from a number to the greatest below it with its hash.
 // Kept: no heap for a map, so chains in tables of fixed size; a link to k is k + 1, and one to no
 // number 0 (specs/Chains.antt, `Chained`), in two bytes, for tables that are cleared with zeros.
+// Three tables and no structs, as the definitions take them.
 #[derive(Drop)]
 pub struct Chains {
     pub heads: [u16; MAX_ROWS],

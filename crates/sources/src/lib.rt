@@ -69,6 +69,8 @@ pub fn vector_at(key: i64, n: usize) -> [i64; LoopNest::MAX_DEPTH]
 }
 
 // The limits of a loop.
+// Kept: that they are not crossed is a clause, since the places behind the depth of a nest have
+// limits too (`loops_of`), which may be any.
 #[derive(Clone, Copy)]
 struct Limits {
     lower: i64,

@@ -5,6 +5,8 @@ ghost use Rattle.sources.specs.Keys.{Searchable, Behind, Increasing, not_below, 
 
 use nest::LoopNest;
 
+// Kept: distances are lent and cursors are its own; that the iteration is one of the table is a
+// clause, since `advance` goes past the last.
 // Finds the sources of the iterations of a table of keys, one iteration after the other, along some
 // dependences, whose keys are their distances.
 #[derive(Drop)]
