@@ -17,6 +17,15 @@ pub struct AcceptedNest {
 }
 
 impl AcceptedNest {
+    // Of a nest whose refusal is known to be 0: it is not checked again, and cannot be refused.
+    pub fn new(nest: LoopNest) -> AcceptedNest
+        requires { refusal nest ≡ 0 }
+        ensures { result.nest ≡ nest }
+    {
+        let iterations = nest.parts().loops().point_count() as usize;
+        AcceptedNest { nest, iterations }
+    }
+
     // How many loops it has.
     pub fn depth(&self) -> usize
         ensures { result ≡ depth_of self.now.nest }

@@ -16,6 +16,7 @@ pub mod LineLaws
 pub mod ShapeLaws
 pub mod LastLine
 pub mod EqualValues
+pub mod StoreLaws
 pub mod RowLaws
 pub mod FillLaws
 pub mod BodyLaws
