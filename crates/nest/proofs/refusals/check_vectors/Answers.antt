@@ -2,7 +2,7 @@
 use Rattle.nest.specs.declared.LoopNest.{LoopNest}
 use Rattle.nest.specs.declared.faults.Dependences.{Dependences}
 use mathlib.Core.Path.{◌≡◌, sym, ◌∙◌, ap, ap₂, refl}
-use mathlib.Core.Bool.{Bool, false}
+use mathlib.Core.Bool.{Bool}
 use mathlib.Core.List.{List, [], ◌∷◌, map}
 use Prim.Native.Nat.{ℕ, ◌/◌, ◌≤◌}
 use native.Mathlib.Omega.{arith}
